@@ -1,0 +1,125 @@
+-- Laws of the first row that applies: each number is given exactly when its own test passes and no earlier one does, and where
+-- the numbers rise it is the lowest of those that apply.
+-- Assumes nothing.
+use mathlib.Core.Path.{_≡_, refl, sym, ap, _∙_}
+use mathlib.Core.Logic.{_↔_, _≢_}
+use mathlib.Core.Bool.{Bool, true, false, true≢false, false≢true, not, _&&_}
+use mathlib.Core.List.{List, [], _∷_, _++_, List·Memᴰ, List·Memᴰ·cases-cons}
+use mathlib.Core.Logic.{⊎-elim}
+use Prim.Native.Nat.{ℕ, _≤_, _<_}
+use lib.Dec.{ltb, eqb}
+use borrow.Author.Tests.{eqb-true, eqb-false, eq-eqb, ne-eqb, ltb-true}
+use native.Mathlib.Nat.{le-refl}
+use native.Mathlib.Omega.{arith}
+use Rattle.laws.specs.Tests.{Row, firstOf, noneOf}
+use Rattle.laws.proofs.Tests.{same-test, and-left, and-right}
+
+-- the numbers of the rows are above k, and rise
+abbrev pub rising : ℕ → List Row → Bool
+rising k [] = true
+rising k (r ∷ rs) = ltb k (r .0) && rising (r .0) rs
+
+-- no number is 0
+abbrev pub named : List Row → Bool
+named [] = true
+named (r ∷ rs) = not (eqb (r .0) 0) && named rs
+
+-- none of the rows has this number, nor is it 0
+abbrev pub lacks : ℕ → List Row → Bool
+lacks k [] = not (eqb k 0)
+lacks k (r ∷ rs) = not (eqb k (r .0)) && lacks k rs
+
+not-of : (b : Bool) → not b ≡ true → b ≡ false
+not-of true e = sym e
+not-of false e = refl
+
+pub first-lacks : (k : ℕ) (rs : List Row) → lacks k rs ≡ true → firstOf rs ≢ k
+first-lacks k [] e z = eqb-false k 0 (not-of (eqb k 0) e) (sym z)
+first-lacks k ((n, true) ∷ rs) e z = eqb-false k n (not-of (eqb k n) (and-left (not (eqb k n)) (lacks k rs) e)) (sym z)
+first-lacks k ((n, false) ∷ rs) e z = first-lacks k rs (and-right (not (eqb k n)) (lacks k rs) e) z
+
+-- rows of which the earlier ones don't apply
+pub first-skip : (before after : List Row) → noneOf before ≡ true → firstOf (before ++ after) ≡ firstOf after
+first-skip [] after e = refl
+first-skip (r ∷ rs) after e =
+    rw (not-of (r .1) (and-left (not (r .1)) (noneOf rs) e)) (first-skip rs after (and-right (not (r .1)) (noneOf rs) e))
+
+-- given that no earlier row applies, a row's number is given exactly when its test passes
+pub first-exact : (before after : List Row) (k : ℕ) (t : Bool) → noneOf before ≡ true → lacks k after ≡ true
+    → (firstOf (before ++ (k, t) ∷ after) ≡ k) ↔ (t ≡ true)
+first-exact before after k true e l = (λ z. refl, λ z. first-skip before ((k, true) ∷ after) e)
+first-exact before after k false e l =
+    (λ z. absurd (first-lacks k after l (sym (first-skip before ((k, false) ∷ after) e) ∙ z)), λ z. absurd (false≢true z))
+
+-- no row applies exactly when 0 is given
+pub first-none : (rs : List Row) → named rs ≡ true → (firstOf rs ≡ 0) ↔ (noneOf rs ≡ true)
+first-none rs e = (to rs e, of rs)
+  where
+    to : (rs : List Row) → named rs ≡ true → firstOf rs ≡ 0 → noneOf rs ≡ true
+    to [] e z = refl
+    to ((n, true) ∷ rs) e z = absurd (eqb-false n 0 (not-of (eqb n 0) (and-left (not (eqb n 0)) (named rs) e)) z)
+    to ((n, false) ∷ rs) e z = to rs (and-right (not (eqb n 0)) (named rs) e) z
+
+    of : (rs : List Row) → noneOf rs ≡ true → firstOf rs ≡ 0
+    of [] e = refl
+    of ((n, true) ∷ rs) e = absurd (false≢true e)
+    of ((n, false) ∷ rs) e = of rs e
+
+pub first-taken : (rs : List Row) → named rs ≡ true → eqb (firstOf rs) 0 ≡ noneOf rs
+first-taken rs e =
+    let r = first-none rs e in
+    same-test (eqb (firstOf rs) 0) (noneOf rs) (λ t. r .0 (eqb-true (firstOf rs) 0 t)) (λ t. eq-eqb (firstOf rs) 0 (r .1 t))
+
+rising-above : (k : ℕ) (rs : List Row) → rising k rs ≡ true → (r : Row) → List·Memᴰ r rs → k < r .0
+rising-above k (s ∷ rs) e r m =
+    let l = ltb-true k (s .0) (and-left (ltb k (s .0)) (rising (s .0) rs) e) in
+    ⊎-elim (λ q. let z : r .0 ≡ s .0 = ap (λ (x : Row). x .0) q in omega arith)
+    (λ q. let d = rising-above (s .0) rs (and-right (ltb k (s .0)) (rising (s .0) rs) e) r q in omega arith) (List·Memᴰ·cases-cons m)
+
+-- the lowest of those that apply is given
+pub first-lowest : (k : ℕ) (rs : List Row) → rising k rs ≡ true → (r : Row) → List·Memᴰ r rs → r .1 ≡ true → firstOf rs ≤ r .0
+first-lowest k ((n, true) ∷ rs) e r m t =
+    ⊎-elim (λ z. let y : r .0 ≡ n = ap (λ (x : Row). x .0) z in omega arith)
+    (λ z. let d = rising-above n rs (and-right (ltb k n) (rising n rs) e) r z in omega arith) (List·Memᴰ·cases-cons m)
+first-lowest k ((n, false) ∷ rs) e r m t =
+    ⊎-elim (λ z. absurd (true≢false (sym t ∙ ap (λ (x : Row). x .1) z)))
+    (λ z. first-lowest n rs (and-right (ltb k n) (rising n rs) e) r z t) (List·Memᴰ·cases-cons m)
+
+-- ---- rows in order
+
+rising-split : (j : ℕ) (before after : List Row) (k : ℕ) (t : Bool) → rising j (before ++ (k, t) ∷ after) ≡ true → (j < k) × (rising k after ≡ true)
+rising-split j [] after k t e = (ltb-true j k (and-left (ltb j k) (rising k after) e), and-right (ltb j k) (rising k after) e)
+rising-split j (r ∷ rs) after k t e =
+    let l = ltb-true j (r .0) (and-left (ltb j (r .0)) (rising (r .0) (rs ++ (k, t) ∷ after)) e) in
+    let s = rising-split (r .0) rs after k t (and-right (ltb j (r .0)) (rising (r .0) (rs ++ (k, t) ∷ after)) e) in
+    let u = s .0 in (omega arith, s .1)
+
+rising-lacks : (k n : ℕ) (rs : List Row) → 0 < k → k ≤ n → rising n rs ≡ true → lacks k rs ≡ true
+rising-lacks k n [] h l e = rw (ne-eqb k 0 (λ z. omega arith))
+rising-lacks k n (r ∷ rs) h l e =
+    let u = ltb-true n (r .0) (and-left (ltb n (r .0)) (rising (r .0) rs) e) in
+    rw (ne-eqb k (r .0) (λ z. omega arith)) (rising-lacks k (r .0) rs h (omega arith) (and-right (ltb n (r .0)) (rising (r .0) rs) e))
+
+rising-named : (k : ℕ) (rs : List Row) → rising k rs ≡ true → named rs ≡ true
+rising-named k [] e = refl
+rising-named k (r ∷ rs) e =
+    let u = ltb-true k (r .0) (and-left (ltb k (r .0)) (rising (r .0) rs) e) in
+    rw (ne-eqb (r .0) 0 (λ z. omega arith)) (rising-named (r .0) rs (and-right (ltb k (r .0)) (rising (r .0) rs) e))
+
+-- what rows whose numbers rise give
+pub record InOrder (rs : List Row) : Type 0 where
+  -- given that no lower number applies, a number is given exactly when its test passes
+  pub exact : (before after : List Row) (k : ℕ) (t : Bool) → rs ≡ before ++ (k, t) ∷ after → noneOf before ≡ true → (firstOf rs ≡ k) ↔ (t ≡ true)
+  -- of all that apply the lowest is given
+  pub lowest : (r : Row) → List·Memᴰ r rs → r .1 ≡ true → firstOf rs ≤ r .0
+  -- 0 is given exactly when none applies
+  pub free : (firstOf rs ≡ 0) ↔ (noneOf rs ≡ true)
+
+pub in-order : (rs : List Row) → rising 0 rs ≡ true → InOrder rs
+in-order rs e = record {
+  exact = λ before after k t q n.
+      let s = rising-split 0 before after k t (rw q at e) in
+      rw q (first-exact before after k t n (rising-lacks k k after (s .0) (le-refl k) (s .1)));
+  lowest = first-lowest 0 rs e;
+  free = first-none rs (rising-named 0 rs e);
+}

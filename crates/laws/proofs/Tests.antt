@@ -1,0 +1,100 @@
+-- Laws of choices by a test, of `and` and `or`, and of numbers against a run.
+-- Assumes nothing.
+use mathlib.Core.Path.{_≡_, refl, sym, _∙_}
+use mathlib.Core.Bool.{Bool, true, false, true≢false, _&&_, _||_, and-false, Bool·beq}
+use Prim.Native.Nat.{ℕ, _+_, _≤_, _<_}
+use lib.Dec.{leb, ltb}
+use borrow.Author.Tests.{lt-leb, le-leb, leb-true, lt-ltb, le-ltb, ltb-true}
+use native.Mathlib.Omega.{arith}
+use Rattle.laws.specs.Tests.{if_then_else_, one, covers}
+
+-- ---- a choice by a test
+
+-- a test, and what it came to
+pub case {ℓ} : {P : Type ℓ} (b : Bool) → (b ≡ true → P) → (b ≡ false → P) → P
+case true f g = f refl
+case false f g = g refl
+
+-- both branches agree with z
+pub if-both {ℓ} : {A : Type ℓ} (b : Bool) {x y z : A} → x ≡ z → y ≡ z → (if b then x else y) ≡ z
+if-both true p q = p
+if-both false p q = q
+
+-- what holds of both branches holds of the whole
+pub if-elim {ℓ κ} : {A : Type ℓ} (P : A → Type κ) (b : Bool) {x y : A} → (b ≡ true → P x) → (b ≡ false → P y) → P (if b then x else y)
+if-elim P true f g = f refl
+if-elim P false f g = g refl
+
+-- two tests, each of which passes where the other does
+pub same-test : (a b : Bool) → (a ≡ true → b ≡ true) → (b ≡ true → a ≡ true) → a ≡ b
+same-test true b f g = sym (f refl)
+same-test false true f g = g refl
+same-test false false f g = refl
+
+pub one-le : (t : Bool) → one t ≤ 1
+one-le true = omega arith
+one-le false = omega arith
+
+pub one-none : (t : Bool) → one t ≡ 0 → t ≡ false
+one-none true e = absurd (omega arith)
+one-none false e = refl
+
+pub beq-same : (a b : Bool) → Bool·beq a b ≡ true → a ≡ b
+beq-same true true e = refl
+beq-same true false e = sym e
+beq-same false true e = e
+beq-same false false e = refl
+
+pub not-both {ℓ} : {P : Type ℓ} (b : Bool) → b ≡ true → b ≡ false → P
+not-both b p q = absurd (true≢false (sym p ∙ q))
+
+-- ---- and, or
+
+pub and-left : (a b : Bool) → (a && b) ≡ true → a ≡ true
+and-left true b e = refl
+and-left false b e = e
+
+pub and-right : (a b : Bool) → (a && b) ≡ true → b ≡ true
+and-right true b e = e
+and-right false b e = cc
+
+pub and-both : {a b : Bool} → a ≡ true → b ≡ true → (a && b) ≡ true
+and-both p q = cc
+
+pub or-left : (t u : Bool) → (t || u) ≡ false → t ≡ false
+or-left true u h = h
+or-left false u h = refl
+
+pub or-right : (t u : Bool) → (t || u) ≡ false → u ≡ false
+or-right true u h = cc
+or-right false u h = h
+
+-- two conjunctions are equal whose second parts are wherever the first part holds
+pub and-cong : (t : Bool) {u v : Bool} → (t ≡ true → u ≡ v) → (t && u) ≡ (t && v)
+and-cong true e = e refl
+and-cong false e = refl
+
+-- ---- a number against a run
+
+pub covers-in : (a n i : ℕ) → a ≤ i → i < a + n → covers a n i ≡ true
+covers-in a n i h k = rw (le-leb a i h, lt-ltb i (a + n) k)
+
+pub covers-below : (a n i : ℕ) → i < a → covers a n i ≡ false
+covers-below a n i h = rw (lt-leb a i h)
+
+pub covers-above : (a n i : ℕ) → a + n ≤ i → covers a n i ≡ false
+covers-above a n i h = rw (le-ltb i (a + n) h) (and-false (leb a i))
+
+pub covers-true : (a n i : ℕ) → covers a n i ≡ true → (a ≤ i) × (i < a + n)
+covers-true a n i e = (leb-true a i (and-left (leb a i) (ltb i (a + n)) e), ltb-true i (a + n) (and-right (leb a i) (ltb i (a + n)) e))
+
+-- one more number is covered
+pub covers-more : (a n i : ℕ) → (a ≤ i → i ≡ a + n → ⊥) → covers a n i ≡ covers a (n + 1) i
+covers-more a n i ne = and-cong (leb a i) (λ l. let k = leb-true a i l in let d = ne k in
+    same-test (ltb i (a + n)) (ltb i (a + (n + 1))) (λ x. up (ltb-true i (a + n) x)) (λ x. down d (ltb-true i (a + (n + 1)) x)))
+  where
+    up : i < a + n → ltb i (a + (n + 1)) ≡ true
+    up x = lt-ltb i (a + (n + 1)) (omega arith)
+
+    down : (i ≡ a + n → ⊥) → i < a + (n + 1) → ltb i (a + n) ≡ true
+    down d x = lt-ltb i (a + n) (omega arith)

@@ -1,0 +1,170 @@
+-- Both records are sound after an accepted reset, and every call keeps them so.
+-- Assumes nothing.
+use mathlib.Core.Path.{_≡_, refl, ap, _∙_}
+use Prim.Native.Nat.{ℕ, suc, _%_}
+use mathlib.Core.Bool.{Bool, true, false}
+use mathlib.Core.List.{List, [], _∷_}
+use lib.Bits.{or-zero-r}
+use lib.Dec.{eqb}
+use borrow.Author.Tests.{eqb-true}
+use native.Mathlib.Omega.{arith}
+use Rattle.laws.specs.Tests.{if_then_else_, covers}
+use Rattle.laws.specs.Bits.{splice}
+use Rattle.laws.proofs.Tests.{case, and-left, and-right, and-both, if-both}
+use Rattle.laws.proofs.Bits.{or-high, splice-low}
+use Rattle.model.specs.Ports.{Port, Places, State, Call, reset, sample, read, write, caller, give}
+use Rattle.model.specs.Map.{pageAt, supported, tidy, sound, Seat, flag, mine, common, status, blank, seat}
+use Rattle.model.specs.Refusals.{accepted}
+use Rattle.model.specs.Samples.{conditions, conds, raised}
+use Rattle.model.specs.Reading.{cleared}
+use Rattle.model.specs.Writing.{ownClass, written, entered, store, puts}
+use Rattle.model.specs.Calls.{done, step, Calls, start, _▷_, run}
+use Rattle.model.proofs.Ports.{give-elim}
+use Rattle.model.proofs.Lasting.{supported-lasts, store-lasts, sample-lasts}
+
+-- both records are sound
+pub record Good (m : State) : Type 0 where
+  pub both : (p : Port) → sound (m .mem) (m .own p) ≡ true
+
+-- the tests of a record, as facts
+record Tidy (o : Places) : Type 0 where
+  f8 : o 5 ≡ 0
+  f6 : o 3 % 16 ≡ 0
+  f7 : o 4 % 16 ≡ 0
+  m103 : o 15 % 16 ≡ 0
+  m104 : o 16 % 16 ≡ 0
+
+tidy-to : (o : Places) → tidy o ≡ true → Tidy o
+unfolding tidy
+tidy-to o e = record {
+  f8 = search (and-left, and-right, eqb-true);
+  f6 = search (and-left, and-right, eqb-true);
+  f7 = search (and-left, and-right, eqb-true);
+  m103 = search (and-left, and-right, eqb-true);
+  m104 = search (and-left, and-right, eqb-true);
+}
+
+tidy-of : (o : Places) → Tidy o → tidy o ≡ true
+unfolding tidy
+tidy-of o t = rw (t .f8, t .f6, t .f7, t .m103, t .m104)
+
+-- ---- a record after each kind of change
+
+tidy-cleared : (a n : ℕ) (o : Places) → Tidy o → Tidy (cleared a n o)
+unfolding cleared
+tidy-cleared a n o t = record {
+  f8 = if-both (covers a n 8) refl (t .f8);
+  f6 = low (covers a n 6) (o 3) (t .f6);
+  f7 = low (covers a n 7) (o 4) (t .f7);
+  m103 = t .m103;
+  m104 = t .m104;
+}
+  where
+    low : (b : Bool) (x : ℕ) → x % 16 ≡ 0 → (if b then 0 else x) % 16 ≡ 0
+    low true x e = refl
+    low false x e = e
+
+tidy-raised : (mem : Places) (x : List ℕ) (o : Places) → Tidy o → Tidy (raised mem x o)
+unfolding raised conds conditions
+tidy-raised mem x o t = record {
+  f8 = or-zero-r (o 5) ∙ t .f8;
+  f6 = or-high (o 3) _ (omega arith) ∙ t .f6;
+  f7 = or-high (o 4) _ (omega arith) ∙ t .f7;
+  m103 = t .m103;
+  m104 = t .m104;
+}
+
+tidy-entered : (mem : Places) (k v : ℕ) (o : Places) → Tidy o → Tidy (entered mem ownClass k v o)
+unfolding written
+tidy-entered mem k v o t = record {
+  f8 = if-both (eqb 5 k) refl refl ∙ t .f8;
+  f6 = ap (λ (x : ℕ). x % 16) (if-both (eqb 3 k) refl refl) ∙ t .f6;
+  f7 = ap (λ (x : ℕ). x % 16) (if-both (eqb 4 k) refl refl) ∙ t .f7;
+  m103 = low (eqb 15 k) (o 15) ∙ t .m103;
+  m104 = low (eqb 16 k) (o 16) ∙ t .m104;
+}
+  where
+    low : (b : Bool) (x : ℕ) → (if b then splice 4 v x else x) % 16 ≡ x % 16
+    low true x = splice-low 4 v x
+    low false x = refl
+
+tidy-zero : Tidy (λ k. 0)
+tidy-zero = record { f8 = refl; f6 = refl; f7 = refl; m103 = refl; m104 = refl }
+
+-- ---- the page stays supported
+
+page-new : (mem : Places) (v : ℕ) → supported mem (if supported mem v then v else 0) ≡ true
+page-new mem v = go (supported mem v) refl
+  where
+    go : (b : Bool) → supported mem v ≡ b → supported mem (if b then v else 0) ≡ true
+    go true h = h
+    go false h = unfold supported in refl
+
+page-entered : (mem : Places) (k v : ℕ) (o : Places) → supported mem (o pageAt) ≡ true → supported mem (entered mem ownClass k v o pageAt) ≡ true
+unfolding written
+page-entered mem k v o e = go (eqb pageAt k)
+  where
+    go : (b : Bool) → supported mem (if b then (if supported mem v then v else 0) else o pageAt) ≡ true
+    go true = page-new mem v
+    go false = e
+
+-- ---- every call keeps both records sound
+
+pub page-of : (m : State) → Good m → (p : Port) → supported (m .mem) (m .own p pageAt) ≡ true
+unfolding sound
+page-of m g p = and-left (supported (m .mem) (m .own p pageAt)) (tidy (m .own p)) (g .both p)
+
+tidy-at : (m : State) → Good m → (p : Port) → Tidy (m .own p)
+unfolding sound
+tidy-at m g p = tidy-to (m .own p) (and-right (supported (m .mem) (m .own p pageAt)) (tidy (m .own p)) (g .both p))
+
+make : (m : State) → ((p : Port) → supported (m .mem) (m .own p pageAt) ≡ true) → ((p : Port) → Tidy (m .own p)) → Good m
+unfolding sound
+make m s t = record { both = λ p. and-both (s p) (tidy-of (m .own p) (t p)) }
+
+-- one record is replaced by one that is sound on the same memory
+give-good : (m : State) (q : Port) (f : Places) → Good m → supported (m .mem) (f pageAt) ≡ true → Tidy f → Good (record { mem = m .mem; own = give (m .own) q f })
+give-good m q f g s t =
+    make _ (give-elim (λ p o. supported (m .mem) (o pageAt) ≡ true) (m .own) q f s (page-of m g)) (give-elim (λ p o. Tidy o) (m .own) q f t (tidy-at m g))
+
+good-store : (m : State) (q : Port) (v : ℕ) (s : Seat) → Good m → Good (store m q v s)
+good-store m q v s g = go s (λ p. supported-lasts (store-lasts m q v s) (m .own p pageAt) ∙ page-of m g p)
+  where
+    go : (s : Seat) → ((p : Port) → supported (store m q v s .mem) (m .own p pageAt) ≡ true) → Good (store m q v s)
+    go (flag k) h = unfold store in g
+    go (mine k) h = unfold store in give-good m q _ g (page-entered (m .mem) k v (m .own q) (page-of m g q)) (tidy-entered (m .mem) k v (m .own q) (tidy-at m g q))
+    go (common i) h = unfold store in make _ h (tidy-at m g)
+    go status h = unfold store in g
+    go blank h = unfold store in g
+
+good-puts : (m : State) (q : Port) (g a : ℕ) (vs : List ℕ) → Good m → Good (puts m q g a vs)
+unfolding puts
+good-puts m q g a [] t = t
+good-puts m q g a (v ∷ vs) t = good-puts (store m q v (seat g a)) q g (suc a) vs (good-store m q v (seat g a) t)
+
+-- a reset makes both sound, whatever stood before
+pub good-reset : (m : State) (img : List ℕ) → Good (done m (reset img))
+unfolding done supported
+good-reset m img = make _ (λ p. refl) (λ p. tidy-zero)
+
+good-done : (m : State) (c : Call) → Good m → Good (done m c)
+unfolding done raised cleared
+good-done m (reset img) g = good-reset m img
+good-done m (sample x) g =
+    make _ (λ p. supported-lasts (sample-lasts (m .mem) x) (m .own p pageAt) ∙ page-of m g p) (λ p. tidy-raised (m .mem) x (m .own p) (tidy-at m g p))
+good-done m (read n a k out) g = give-good m (caller n) _ g (page-of m g (caller n)) (tidy-cleared a k (m .own (caller n)) (tidy-at m g (caller n)))
+good-done m (write n a vs) g = good-puts m (caller n) (m .own (caller n) pageAt) a vs g
+
+-- a sound state stays sound
+pub good-step : (m : State) (c : Call) → Good m → Good (step m c)
+unfolding step
+good-step m c g = case (accepted m c) (λ h. rw h (good-done m c g)) (λ h. rw h g)
+
+pub good-run : (m : State) (h : Calls) → Good m → Good (run m h)
+unfolding run
+good-run m start g = g
+good-run m (h ▷ c) g = good-step (run m h) c (good-run m h g)
+
+pub good-after : (m : State) (img : List ℕ) → accepted m (reset img) ≡ true → Good (step m (reset img))
+unfolding step
+good-after m img e = rw e (good-reset m img)

@@ -1,0 +1,12 @@
+pub mod Ports
+pub mod Map
+pub mod Refusals
+pub mod Reset
+pub mod Samples
+pub mod Reading
+pub mod Writing
+pub mod Interrupt
+pub mod Readout
+pub mod Calls
+pub mod Bytes
+pub mod Demands
