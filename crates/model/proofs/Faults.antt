@@ -14,12 +14,17 @@ use Rattle.model.proofs.Idle.{losing, loss, number, looks, masks, after
 abbrev reads : State → Port → ℕ → ℕ
 reads s p a = seen (s .mem) (s .own p) a
 
--- "Showing byte 2 bit 1 as 1 while the interrupt stands": byte 2 is 0 while it stands, 2 after the flag is read
-pub pin-follows : (m : State) (p : Port)
-    → (reads (afterReset m (start ▷ loss)) p 2 ≡ 0) × (reads (afterReset m (start ▷ loss ▷ looks p)) p 2 ≡ 2)
+-- "Showing byte 2 bit 1 as 1 while the interrupt stands": byte 2 is 0 while it stands
+pub pin-follows : (m : State) (p : Port) → reads (afterReset m (start ▷ loss)) p 2 ≡ 0
 unfolding computed
-pin-follows m operator = (story (λ s. reads s operator 2) m (start ▷ loss) refl, story (λ s. reads s operator 2) m (start ▷ loss ▷ looks operator) refl)
-pin-follows m recorder = (story (λ s. reads s recorder 2) m (start ▷ loss) refl, story (λ s. reads s recorder 2) m (start ▷ loss ▷ looks recorder) refl)
+pin-follows m operator = story (λ s. reads s operator 2) m (start ▷ loss) refl
+pin-follows m recorder = story (λ s. reads s recorder 2) m (start ▷ loss) refl
+
+-- and 2 after the flag is read
+pub pin-released : (m : State) (p : Port) → reads (afterReset m (start ▷ loss ▷ looks p)) p 2 ≡ 2
+unfolding computed
+pin-released m operator = story (λ s. reads s operator 2) m (start ▷ loss ▷ looks operator) refl
+pin-released m recorder = story (λ s. reads s recorder 2) m (start ▷ loss ▷ looks recorder) refl
 
 -- "Clearing flags first and copying zeros out": the read that clears the flag shows it
 pub read-shows-it : (m : State) (p : Port) → answer (afterReset m (start ▷ loss)) p (looks p) .output ≡ 1 ∷ []
@@ -58,12 +63,17 @@ second-sample-too m recorder = story (λ s. shown s recorder) m (start ▷ loss 
 abbrev puts : Port → ℕ → ℕ → Call
 puts p a v = write (number p) a (v ∷ [])
 
--- "A page number that isn't supported, written to 127, selects 00h", and one that is supported selects it
-pub selects : (m : State) (p : Port)
-    → (reads (afterReset m (start ▷ puts p 127 3)) p 127 ≡ 3) × (reads (afterReset m (start ▷ puts p 127 3 ▷ puts p 127 9)) p 127 ≡ 0)
+-- a supported page number, written to 127, selects the page
+pub selects : (m : State) (p : Port) → reads (afterReset m (start ▷ puts p 127 3)) p 127 ≡ 3
 unfolding computed
-selects m operator = (story (λ s. reads s operator 127) m (start ▷ puts operator 127 3) refl, story (λ s. reads s operator 127) m (start ▷ puts operator 127 3 ▷ puts operator 127 9) refl)
-selects m recorder = (story (λ s. reads s recorder 127) m (start ▷ puts recorder 127 3) refl, story (λ s. reads s recorder 127) m (start ▷ puts recorder 127 3 ▷ puts recorder 127 9) refl)
+selects m operator = story (λ s. reads s operator 127) m (start ▷ puts operator 127 3) refl
+selects m recorder = story (λ s. reads s recorder 127) m (start ▷ puts recorder 127 3) refl
+
+-- "A page number that isn't supported, written to 127, selects 00h"
+pub selects-zero : (m : State) (p : Port) → reads (afterReset m (start ▷ puts p 127 3 ▷ puts p 127 9)) p 127 ≡ 0
+unfolding computed
+selects-zero m operator = story (λ s. reads s operator 127) m (start ▷ puts operator 127 3 ▷ puts operator 127 9) refl
+selects-zero m recorder = story (λ s. reads s recorder 127) m (start ▷ puts recorder 127 3 ▷ puts recorder 127 9) refl
 
 -- "103, 104 bits 7-4"
 pub high-bits-alone : (m : State) (p : Port) → reads (afterReset m (start ▷ puts p 103 255)) p 103 ≡ 240

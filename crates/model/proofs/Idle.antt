@@ -109,14 +109,15 @@ unfolding computed
 rises-for-both m operator = story (λ s. shown s operator) m (start ▷ loss) refl
 rises-for-both m recorder = story (λ s. shown s recorder) m (start ▷ loss) refl
 
+-- what a port and the other one are shown
+abbrev pub shownBoth : State → Port → (ℕ × ℕ × Bool) × (ℕ × ℕ × Bool)
+shownBoth s p = (shown s p, shown s (other p))
+
 -- "then the flag bytes inside the run become 0 for this port alone": the reader's is clear, the other's still stands
-pub read-clears-one : (m : State) (p : Port)
-    → (shown (afterReset m (start ▷ loss ▷ looks p)) p ≡ (0, 0, false)) × (shown (afterReset m (start ▷ loss ▷ looks p)) (other p) ≡ (1, 1, true))
+pub read-clears-one : (m : State) (p : Port) → shownBoth (afterReset m (start ▷ loss ▷ looks p)) p ≡ ((0, 0, false), (1, 1, true))
 unfolding computed
-read-clears-one m operator =
-    (story (λ s. shown s operator) m (start ▷ loss ▷ looks operator) refl, story (λ s. shown s recorder) m (start ▷ loss ▷ looks operator) refl)
-read-clears-one m recorder =
-    (story (λ s. shown s recorder) m (start ▷ loss ▷ looks recorder) refl, story (λ s. shown s operator) m (start ▷ loss ▷ looks recorder) refl)
+read-clears-one m operator = story (λ s. shownBoth s operator) m (start ▷ loss ▷ looks operator) refl
+read-clears-one m recorder = story (λ s. shownBoth s recorder) m (start ▷ loss ▷ looks recorder) refl
 
 -- "If the condition persists, the next sample raises the flag again"
 pub rises-again : (m : State) (p : Port) → shown (afterReset m (start ▷ loss ▷ looks p ▷ loss)) p ≡ (1, 1, true)
@@ -125,10 +126,7 @@ rises-again m operator = story (λ s. shown s operator) m (start ▷ loss ▷ lo
 rises-again m recorder = story (λ s. shown s recorder) m (start ▷ loss ▷ looks recorder ▷ loss) refl
 
 -- "A mask bit of 1 holds its flag back": it reads 1 still, but is not counted; the other port's still stands
-pub mask-holds-back : (m : State) (p : Port)
-    → (shown (afterReset m (start ▷ loss ▷ masks p)) p ≡ (1, 0, false)) × (shown (afterReset m (start ▷ loss ▷ masks p)) (other p) ≡ (1, 1, true))
+pub mask-holds-back : (m : State) (p : Port) → shownBoth (afterReset m (start ▷ loss ▷ masks p)) p ≡ ((1, 0, false), (1, 1, true))
 unfolding computed
-mask-holds-back m operator =
-    (story (λ s. shown s operator) m (start ▷ loss ▷ masks operator) refl, story (λ s. shown s recorder) m (start ▷ loss ▷ masks operator) refl)
-mask-holds-back m recorder =
-    (story (λ s. shown s recorder) m (start ▷ loss ▷ masks recorder) refl, story (λ s. shown s operator) m (start ▷ loss ▷ masks recorder) refl)
+mask-holds-back m operator = story (λ s. shownBoth s operator) m (start ▷ loss ▷ masks operator) refl
+mask-holds-back m recorder = story (λ s. shownBoth s recorder) m (start ▷ loss ▷ masks recorder) refl

@@ -56,7 +56,7 @@ no-bit {ℓ} : {P : Type ℓ} (j : ℕ) → bit j 0 ≡ 1 → P
 no-bit j e = let z : _≡_ {A = ℕ} 0 1 = sym (bit-none j) ∙ e in absurd (omega arith)
 
 module _ (s : State) (img : List ℕ) (g : Good s) (e : (i : ℕ) → lasting i ≡ true → s .mem i ≡ at img i) (p : Port) (k j : ℕ) (l : k < flags .many) (z : s .own p k ≡ 0) where
-  conds-run : (h : Calls) (x : List ℕ) → conds (run s h .mem) x (3 + k) ≡ conds (at (imageOf img h)) x (3 + k)
+  pub conds-run : (h : Calls) (x : List ℕ) → conds (run s h .mem) x (3 + k) ≡ conds (at (imageOf img h)) x (3 + k)
   conds-run h x = conds-same (limits-run s img e h) x (3 + k)
 
   -- only an accepted sample brings a condition
