@@ -2,25 +2,25 @@
 -- Assumes nothing.
 use mathlib.Core.Path.{_≡_, refl, sym, ap, _∙_}
 use mathlib.Core.Logic.{_↔_, _≢_}
-use mathlib.Core.Bool.{true, false, _&&_}
+use mathlib.Core.Bool.{Bool, true, false, _&&_, not}
 use mathlib.Core.List.{List}
 use Prim.Native.Nat.{ℕ, _+_, _-_, _≤_, _<_}
 use native.Mathlib.Omega.{arith}
 use lib.Dec.{ltb, eqb}
 use lib.ListN.{length}
-use borrow.Author.Tests.{eq-eqb, ne-eqb, ltb-false, not-true}
+use borrow.Author.Tests.{eqb-true, eq-eqb, ne-eqb, ltb-false, not-true}
 use Rattle.laws.specs.Tests.{if_then_else_, covers, within, noneOf}
 use Rattle.laws.specs.Bits.{bit}
 use Rattle.laws.specs.Lists.{at}
 use Rattle.laws.proofs.Tests.{not-both, and-left, and-right, covers-true}
 use Rattle.laws.proofs.Rows.{first-taken}
 use Rattle.laws.proofs.Lists.{front-in}
-use Rattle.model.specs.Ports.{Port, nobody, caller, Places, State, Call, reset, read, write}
+use Rattle.model.specs.Ports.{Port, nobody, caller, Places, State, Call, reset, sample, read, write}
 use Rattle.model.specs.Interrupt.{count, stands}
 use Rattle.model.specs.Map.{statusAt, seat, stateSize, flags, paged, pageAt, sound, supported}
 use Rattle.model.specs.Reading.{statusByte, look, seen}
 use Rattle.model.specs.Readout.{limit}
-use Rattle.model.specs.Refusals.{rows, refusal, accepted}
+use Rattle.model.specs.Refusals.{readRows, sampleRows, resetRows, rows, refusal, accepted}
 use Rattle.model.specs.Calls.{done, step, answer, Calls, run}
 use Rattle.model.specs.Bytes.{stateOf, place, refusalOf, after, answerOf, runs}
 use Rattle.model.specs.Writing.{Class, page, reaches, written}
@@ -28,11 +28,11 @@ use Rattle.model.specs.Demands.{Since, Unmasked, Leads, classAt}
 use Rattle.model.proofs.Bytes.{refusal-long, answer-long, state-after, state-runs, memory-at, bytes-at, place-state}
 use Rattle.model.proofs.Writes.{leads-inside, puts-hit, puts-miss, written-bits, page-unsupported, accepted-range}
 use Rattle.model.proofs.Lasting.{lasting, Lasts, isReset, step-lasts, supported-lasts, limit-lasts}
-use Rattle.model.proofs.Flags.{flag-seen}
+use Rattle.model.proofs.Flags.{reset-taken, sample-taken, read-taken, flag-seen}
 use Rattle.model.proofs.Since.{flag-since}
-use Rattle.model.proofs.Sound.{good-run}
+use Rattle.model.proofs.Sound.{Good, good-run}
 use Rattle.model.proofs.Interrupt.{interrupt-rule, pin-rule}
-use Rattle.model.proofs.Begun.{taken-size, taken-state, begun-size, begun-state, begun-good, since-state}
+use Rattle.model.proofs.Begun.{taken-size, taken-state, begun-size, begun-state, begun-good, since-size, since-state}
 
 -- ---- what an accepted read shows
 
@@ -72,6 +72,31 @@ flag-rule s img begun h n a k out e b j f c =
     let shown : at (answerOf (runs (after s (reset img)) h) (caller n) (read n a k out) .output) (b - a) ≡ run (step (stateOf s) (reset img)) h .own (caller n) (b - 3) =
     read-shows (runs (after s (reset img)) h) n a k out e b c ∙ rw (since-state s img begun h, begun-state s img begun) (ap (seen _ _) (sym q) ∙ flag-seen _ _ (b - 3) (omega arith)) in
     rw shown (rw q at (flag-since (stateOf s) img (taken-state s (reset img) begun) h (caller n) (b - 3) j (omega arith)))
+
+-- what `Since` calls accepted is what the calls accept: from an accepted reset on it goes by their own arguments
+pub record AcceptedPlainly (s : List ℕ) : Type 0 where
+  pub of-reset : (img : List ℕ) → (refusalOf s (reset img) ≡ 0) ↔ (noneOf (resetRows img) ≡ true)
+  pub of-sample : (x : List ℕ) → (refusalOf s (sample x) ≡ 0) ↔ (noneOf (sampleRows x) ≡ true)
+  pub of-read : (n a k : ℕ) (out : List ℕ) → (refusalOf s (read n a k out) ≡ 0) ↔ ((not (nobody n) && noneOf (readRows a k (length out))) ≡ true)
+
+pub accepted-plainly : (s img : List ℕ) → refusalOf s (reset img) ≡ 0 → (h : Calls) → AcceptedPlainly (runs (after s (reset img)) h)
+accepted-plainly s img b h = record {
+  of-reset = λ new. plain (reset new) (noneOf (resetRows new)) (reset-taken (stateOf t) new);
+  of-sample = λ x. plain (sample x) (noneOf (sampleRows x)) (sample-taken (stateOf t) x good);
+  of-read = λ n a k out. plain (read n a k out) (not (nobody n) && noneOf (readRows a k (length out))) (read-taken (stateOf t) n a k out good);
+}
+  where
+    t : List ℕ
+    t = runs (after s (reset img)) h
+
+    good : Good (stateOf t)
+    good = rw (since-state s img b h) (good-run (stateOf (after s (reset img))) h (begun-good s img b))
+
+    plain : (c : Call) (r : Bool) → accepted (stateOf t) c ≡ r → (refusalOf t c ≡ 0) ↔ (r ≡ true)
+    plain c r e = (
+      λ z. sym e ∙ taken-state t c z,
+      λ z. refusal-long t c (since-size s img b h) ∙ eqb-true (refusal (stateOf t) c) 0 (e ∙ z),
+    )
 
 -- ---- the interrupt (its rule, of any record, is `interrupt-rule` of Interrupt.antt)
 

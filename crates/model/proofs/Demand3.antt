@@ -2,6 +2,7 @@
 -- and recorder calls in the same order, and operator calls added, dropped or altered at will."
 -- Assumes nothing.
 use mathlib.Core.Path.{_≡_, refl, sym, ap, _∙_}
+use mathlib.Core.Bool.{false}
 use mathlib.Core.List.{List, [], _∷_}
 use Prim.Native.Nat.{ℕ, _+_, _-_, _<_}
 use native.Mathlib.Omega.{arith}
@@ -11,10 +12,10 @@ use borrow.Author.Tests.{ltb-true, ltb-false}
 use Rattle.laws.specs.Tests.{if_then_else_}
 use Rattle.laws.specs.Lists.{at}
 use Rattle.laws.proofs.Tests.{case}
-use Rattle.model.specs.Ports.{Port, operator, recorder, Places, reset}
+use Rattle.model.specs.Ports.{Port, operator, recorder, Places, reset, Call}
 use Rattle.model.specs.Map.{memorySize, recordSize, stateSize, base}
 use Rattle.model.specs.Interrupt.{stands}
-use Rattle.model.specs.Calls.{Answer, Calls, start, _▷_}
+use Rattle.model.specs.Calls.{Answer, Calls, start, _▷_, _▷▷_}
 use Rattle.model.specs.Bytes.{stateOf, refusalOf, after, answerOf, runs}
 use Rattle.model.specs.Demands.{concerns, only, tells}
 use Rattle.model.proofs.Bytes.{runs-length, state-runs, memory-at, record-at, answer-long}
@@ -22,6 +23,12 @@ use Rattle.model.proofs.Fence.{Same, operator-memory}
 use Rattle.model.proofs.Views.{tellsOn, told-operator, port-view}
 use Rattle.model.proofs.Begun.{begun-size, begun-good}
 use Rattle.model.proofs.Sound.{Good}
+
+-- two histories that go on alike
+only-on : (p : Port) (h k : Calls) → only p h ≡ only p k → (cs : List Call) → only p (h ▷▷ cs) ≡ only p (k ▷▷ cs)
+unfolding _▷▷_ only
+only-on p h k q [] = q
+only-on p h k q (c ∷ cs) = only-on p (h ▷ c) (k ▷ c) (rw q) cs
 
 -- what a port is told on the bytes is what it is told in the model
 tells-state : (p : Port) (s : List ℕ) → length s ≡ stateSize → (h : Calls) → tells p s h ≡ tellsOn p (stateOf s) h
@@ -95,3 +102,10 @@ operator-undisturbed s img b h k q =
           rw w at (record-bytes operator (runs t h) (runs t k) (v .0 .own-same) (i - base operator) (omega arith)));
       answers-same = answers-told t e h ∙ v .1 ∙ sym (answers-told t e k);
     }
+
+-- ---- what the two hypotheses allow
+
+-- calls that are not port p's, nor a sample or a reset, may be added or dropped anywhere, and so altered
+pub dropped-anywhere : (p : Port) (h : Calls) (c : Call) (cs : List Call) → concerns p c ≡ false → only p ((h ▷ c) ▷▷ cs) ≡ only p (h ▷▷ cs)
+unfolding only
+dropped-anywhere p h c cs e = only-on p (h ▷ c) h (rw e) cs

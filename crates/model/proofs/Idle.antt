@@ -2,16 +2,17 @@
 -- state, after an accepted reset, short histories are computed: a flag rises for both ports, a read clears it for its reader alone,
 -- the condition raises it again, a mask holds it back from the interrupt but not from a reader. All these calls are accepted.
 -- Assumes nothing.
-use mathlib.Core.Path.{_≡_, refl, ap}
+use mathlib.Core.Path.{_≡_, refl, ap, _∙_}
 use mathlib.Core.Bool.{Bool, true, false, _&&_}
 use mathlib.Core.List.{List, [], _∷_}
 use Prim.Native.Nat.{ℕ}
-use lib.ListN.{replicate}
+use lib.ListN.{length, replicate}
+use borrow.Author.Tests.{eqb-true}
 use Rattle.laws.specs.Tests.{within}
 use Rattle.laws.specs.Lists.{sum, table, patch}
 use Rattle.laws.proofs.Tests.{and-left, and-right}
 use Rattle.model.specs.Ports.{Port, operator, recorder, State, Call, reset, sample, read, write}
-use Rattle.model.specs.Map.{flags, supported, tidy, sound, seat}
+use Rattle.model.specs.Map.{flags, stateSize, supported, tidy, sound, seat}
 use Rattle.model.specs.Reset.{codesRight, emptied, fresh}
 use Rattle.model.specs.Samples.{conditions, conds, stored, raised}
 use Rattle.model.specs.Writing.{written, store, puts}
@@ -19,6 +20,8 @@ use Rattle.model.specs.Refusals.{allMine, rows, refusal, accepted}
 use Rattle.model.specs.Interrupt.{count, stands}
 use Rattle.model.specs.Reading.{shared, look, seen, cleared}
 use Rattle.model.specs.Calls.{done, step, answer, Calls, start, _▷_, run}
+use Rattle.model.specs.Bytes.{stateOf, refusalOf}
+use Rattle.model.proofs.Bytes.{refusal-long}
 
 -- ---- the calls
 
@@ -97,6 +100,10 @@ pub all-accepted : (m : State) (p : Port)
 unfolding computed
 all-accepted m operator = (refl, refl, refl)
 all-accepted m recorder = (refl, refl, refl)
+
+-- so every 688 bytes have an accepted reset, as the demands ask for
+pub begins : (s : List ℕ) → length s ≡ stateSize → refusalOf s (reset image) ≡ 0
+begins s e = refusal-long s (reset image) e ∙ eqb-true (refusal (stateOf s) (reset image)) 0 (all-accepted (stateOf s) operator .0)
 
 -- "Both records are all 0" after a reset: no flag is up
 pub none-at-first : (m : State) (p : Port) (b : ℕ) → within flags b ≡ true → seen (afterReset m start .mem) (afterReset m start .own p) b ≡ 0
