@@ -1,10 +1,6 @@
 -- The state as the bytes that the caller lends, and each call on them.
 -- Assumes nothing.
-use Prim.Native.Nat.{ℕ, _+_, _-_}
-use mathlib.Core.List.{List, [], _∷_}
-use lib.Dec.{ltb, eqb}
-use Rattle.laws.specs.Tests.{if_then_else_, Row, firstOf}
-use Rattle.laws.specs.Lists.{at, table}
+use Rattle.laws.specs.Words.{ℕ, _+_, _-_, List, [], _∷_, ltb, eqb, if_then_else_, Row, firstOf, at, table}
 use Rattle.model.specs.Ports.{Port, operator, recorder, Places, State, Call, reset, sample, read, write}
 use Rattle.model.specs.Map.{memorySize, recordSize, stateSize, base}
 use Rattle.model.specs.Refusals.{wrongSize, rows}

@@ -1,10 +1,6 @@
 -- What a call leaves and answers, and histories of calls.
 -- Assumes nothing.
-use Prim.Native.Nat.{ℕ, _+_}
-use mathlib.Core.List.{List, [], _∷_}
-use lib.Dec.{eqb}
-use Rattle.laws.specs.Tests.{if_then_else_, firstOf}
-use Rattle.laws.specs.Lists.{patch}
+use Rattle.laws.specs.Words.{ℕ, _+_, List, [], _∷_, eqb, if_then_else_, firstOf, patch}
 use Rattle.model.specs.Ports.{Port, caller, State, give, Call, reset, sample, read, write}
 use Rattle.model.specs.Map.{pageAt}
 use Rattle.model.specs.Refusals.{refusal, accepted, identityRows}

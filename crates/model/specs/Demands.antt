@@ -1,15 +1,7 @@
 -- The words that the three demands use: who made a call, what a read of a flag byte clears, which conditions stood since, what a
 -- port is told, which raised flag is unmasked, which bit a write reaches.
 -- Assumes nothing.
-use Prim.Native.Nat.{ℕ, _+_, _<_}
-use mathlib.Core.Path.{_≡_}
-use mathlib.Core.Bool.{Bool, true, false, not, _&&_}
-use mathlib.Core.Option.{Option, none, some}
-use mathlib.Core.List.{List, [], _∷_, List·Memᴰ}
-use lib.ListN.{length}
-use Rattle.laws.specs.Tests.{if_then_else_, covers, noneOf}
-use Rattle.laws.specs.Bits.{bit}
-use Rattle.laws.specs.Lists.{at}
+use Rattle.laws.specs.Words.{ℕ, _+_, _<_, _≡_, Bool, true, false, not, _&&_, Option, none, some, List, [], _∷_, List·Memᴰ, length, if_then_else_, covers, noneOf, bit, at}
 use Rattle.model.specs.Ports.{Port, operator, recorder, same, nobody, caller, Places, State, Call, reset, sample, read, write}
 use Rattle.model.specs.Map.{pageAt, base, Seat, flag, mine, common, status, blank, seat}
 use Rattle.model.specs.Refusals.{readRows, sampleRows, resetRows}

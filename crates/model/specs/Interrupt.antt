@@ -1,12 +1,6 @@
 -- The count and the interrupt: document 01 gives the masks under "Writing", the count under "Refusal numbers and their order".
 -- Assumes nothing.
-use Prim.Native.Nat.{ℕ, zero, suc}
-use mathlib.Core.Bool.{Bool, not, _&&_}
-use mathlib.Core.List.{List, [], _∷_, _++_, map}
-use lib.Dec.{eqb}
-use Rattle.laws.specs.Tests.{one}
-use Rattle.laws.specs.Bits.{has}
-use Rattle.laws.specs.Lists.{sum}
+use Rattle.laws.specs.Words.{ℕ, zero, suc, Bool, not, _&&_, List, [], _∷_, _++_, map, eqb, one, has, sum}
 use Rattle.model.specs.Ports.{Places}
 use Rattle.model.specs.Map.{flags, channelFlags, lowMasks, highMasks, flagOf, lowMaskOf, highMaskOf}
 

@@ -8,11 +8,7 @@
 --          640  operator's record   flags of 3 to 14, masks 100 to 104, masks 242 to 247, page
 --          664  recorder's record   the same
 -- Assumes nothing.
-use Prim.Native.Nat.{ℕ, _+_, _-_, _*_, _%_}
-use mathlib.Core.Bool.{Bool, not, _&&_, _||_}
-use lib.Dec.{ltb, eqb}
-use Rattle.laws.specs.Tests.{if_then_else_, Run, _to_, covers, within}
-use Rattle.laws.specs.Bits.{has}
+use Rattle.laws.specs.Words.{ℕ, _+_, _-_, _*_, _%_, Bool, not, _&&_, _||_, ltb, eqb, if_then_else_, Run, _to_, covers, within, has}
 use Rattle.model.specs.Ports.{Port, operator, recorder, Places}
 
 -- ---- the memory

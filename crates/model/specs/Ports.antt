@@ -1,11 +1,7 @@
 -- Document 01, "The module, its two ports, and the edge of the work": the ports, the state, the calls.
 -- A state is what stands at each place: the module's memory, which both ports share, and one record for each port.
 -- Assumes nothing.
-use Prim.Native.Nat.{ℕ}
-use mathlib.Core.Bool.{Bool, true, false, not, _&&_}
-use mathlib.Core.List.{List}
-use lib.Dec.{eqb}
-use Rattle.laws.specs.Tests.{if_then_else_}
+use Rattle.laws.specs.Words.{ℕ, Bool, true, false, not, _&&_, List, eqb, if_then_else_}
 
 pub data Port : Type 0 where
   operator recorder : Port

@@ -1,10 +1,6 @@
 -- Document 01, "Reading": what each address reads, what a read clears, and the shared list.
 -- Assumes nothing.
-use Prim.Native.Nat.{ℕ, _+_, _*_}
-use mathlib.Core.Bool.{Bool, not, _&&_, _||_}
-use lib.Dec.{ltb, eqb}
-use Rattle.laws.specs.Tests.{if_then_else_, one, Run, _to_, covers, within}
-use Rattle.laws.specs.Bits.{bit}
+use Rattle.laws.specs.Words.{ℕ, _+_, _*_, Bool, not, _&&_, _||_, ltb, eqb, if_then_else_, one, Run, _to_, covers, within, bit}
 use Rattle.model.specs.Ports.{Places}
 use Rattle.model.specs.Map.{inPage, statusAt, flags, pageAt, Seat, flag, mine, common, status, blank, seat}
 use Rattle.model.specs.Reset.{inPage02}

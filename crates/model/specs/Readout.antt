@@ -1,18 +1,6 @@
 -- Document 01, "Identity, monitors, limits".
 -- Assumes nothing.
-use Prim.Native.Nat.{ℕ, zero, suc, _+_, _-_, _*_}
-use mathlib.Core.Bool.{Bool, not, _&&_, _||_}
-use mathlib.Core.List.{List, [], _∷_}
-use lib.ListN.{length, getD}
-use lib.Dec.{eqb}
-use lib.IntN.{ℤ, pos, natAbs}
-use lib.Signed.{nonNeg}
-use lib.Ieee as Ieee
-use lib.Ieee.{Float, binary64}
-use lib.Ieee.Exact.{HasValue}
-use Rattle.laws.specs.Tests.{if_then_else_, covers, Run, _to_}
-use Rattle.laws.specs.Bits.{has}
-use Rattle.laws.specs.Lists.{at, part}
+use Rattle.laws.specs.Words.{ℕ, zero, suc, _+_, _-_, _*_, Bool, not, _&&_, _||_, List, [], _∷_, length, getD, eqb, ℤ, pos, natAbs, nonNeg, div, ofInt, Float, binary64, HasValue, if_then_else_, covers, Run, _to_, has, at, part}
 use Rattle.model.specs.Ports.{Places}
 use Rattle.model.specs.Map.{pageSize, statusAt}
 use Rattle.model.specs.Reset.{codesRight}
@@ -65,7 +53,7 @@ divisor milliwatts = 10000
 divisor milliamperes = 500
 
 abbrev pub over : ℤ → ℕ → Float
-over n d = Ieee.div binary64 (Ieee.ofInt binary64 n) (Ieee.ofInt binary64 (pos d))
+over n d = div binary64 (ofInt binary64 n) (ofInt binary64 (pos d))
 
 -- x is the number z / d, and nothing was rounded
 abbrev pub Exactly : Float → ℤ → ℕ → Type 0

@@ -1,11 +1,6 @@
 -- Document 01, "Refusal numbers and their order": what each call refuses, and in which order.
 -- Assumes nothing.
-use Prim.Native.Nat.{ℕ, zero, suc, _+_, _*_}
-use mathlib.Core.Bool.{Bool, true, false, not, _&&_, _||_}
-use mathlib.Core.List.{List, [], _∷_, _++_}
-use lib.ListN.{length}
-use lib.Dec.{leb, ltb, eqb}
-use Rattle.laws.specs.Tests.{covers, Row, firstOf}
+use Rattle.laws.specs.Words.{ℕ, zero, suc, _+_, _*_, Bool, true, false, not, _&&_, _||_, List, [], _∷_, _++_, length, leb, ltb, eqb, covers, Row, firstOf}
 use Rattle.model.specs.Ports.{Port, operator, recorder, same, nobody, caller, State, Call, reset, sample, read, write}
 use Rattle.model.specs.Map.{pageSize, memorySize, stateSize, pageAt, sound, Seat, flag, mine, common, status, blank, seat}
 use Rattle.model.specs.Reset.{codesRight, imagePage}

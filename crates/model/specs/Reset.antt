@@ -1,12 +1,6 @@
 -- Document 01, "Reset": the check codes, and the memory after an accepted reset.
 -- Assumes nothing.
-use Prim.Native.Nat.{ℕ, _+_, _-_, _*_, _%_}
-use mathlib.Core.Bool.{Bool, _&&_, _||_}
-use mathlib.Core.List.{List}
-use lib.Dec.{eqb}
-use Rattle.laws.specs.Tests.{if_then_else_, Run, _to_, within}
-use Rattle.laws.specs.Bits.{bit}
-use Rattle.laws.specs.Lists.{at, part, sum}
+use Rattle.laws.specs.Words.{ℕ, _+_, _-_, _*_, _%_, Bool, _&&_, _||_, List, eqb, if_then_else_, Run, _to_, within, bit, at, part, sum}
 use Rattle.model.specs.Map.{pageSize, inPage, statusAt, monitors, flags, lowMasks, highMasks, blanks, selectAt}
 
 -- ---- check codes

@@ -1,15 +1,6 @@
 -- Document 01, "Samples and conditions": the five quantities, the one alarm rule, what a sample stores and raises.
 -- Assumes nothing.
-use Prim.Native.Nat.{ℕ, suc, _+_, _-_, _*_, _/_, _%_}
-use mathlib.Core.Bool.{Bool, true, false, not, _&&_, _||_}
-use mathlib.Core.List.{List, [], _∷_}
-use lib.Bits.{bitOr}
-use lib.Dec.{ltb, eqb}
-use lib.IntN.{ℤ, pos, negsuc}
-use lib.Signed.{ltZ}
-use Rattle.laws.specs.Tests.{if_then_else_, one, covers}
-use Rattle.laws.specs.Bits.{has}
-use Rattle.laws.specs.Lists.{at}
+use Rattle.laws.specs.Words.{ℕ, suc, _+_, _-_, _*_, _/_, _%_, Bool, true, false, not, _&&_, _||_, List, [], _∷_, bitOr, ltb, eqb, ℤ, pos, negsuc, ltZ, if_then_else_, one, covers, has, at}
 use Rattle.model.specs.Ports.{Places}
 use Rattle.model.specs.Map.{paged, statusAt, monitors, flags, temperatureFlags, supplyFlags, channelFlags}
 

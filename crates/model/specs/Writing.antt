@@ -1,11 +1,6 @@
 -- Document 01, "Writing": writable bits by class, and what a written byte leaves.
 -- Assumes nothing.
-use Prim.Native.Nat.{ℕ, suc, _+_}
-use mathlib.Core.Bool.{Bool, true, false, _||_}
-use mathlib.Core.List.{List, [], _∷_}
-use lib.Dec.{leb, ltb, eqb}
-use Rattle.laws.specs.Tests.{if_then_else_, covers}
-use Rattle.laws.specs.Bits.{splice}
+use Rattle.laws.specs.Words.{ℕ, suc, _+_, Bool, true, false, _||_, List, [], _∷_, leb, ltb, eqb, if_then_else_, covers, splice}
 use Rattle.model.specs.Ports.{Port, operator, recorder, Places, State, give}
 use Rattle.model.specs.Map.{flags, lowMasks, highMasks, temperatureMask, supplyMask, lowMaskOf, pageAt, supported, Seat, flag, mine, common, status, blank, seat}
 use Rattle.model.specs.Reading.{disableAt, powerAt, shared}
