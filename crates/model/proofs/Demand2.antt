@@ -24,10 +24,10 @@ use Rattle.model.specs.Refusals.{readRows, sampleRows, resetRows, rows, 
 use Rattle.model.specs.Calls.{done, step, answer, Calls, run}
 use Rattle.model.specs.Bytes.{stateOf, place, refusalOf, after, answerOf, runs}
 use Rattle.model.specs.Writing.{Class, page, reaches, written}
-use Rattle.model.specs.Demands.{Since, Unmasked, Leads, classAt}
+use Rattle.model.specs.Demands.{isReset, Since, Unmasked, Leads, classAt}
 use Rattle.model.proofs.Bytes.{refusal-long, answer-long, state-after, state-runs, memory-at, bytes-at, place-state}
 use Rattle.model.proofs.Writes.{leads-inside, puts-hit, puts-miss, written-bits, page-unsupported, accepted-range}
-use Rattle.model.proofs.Lasting.{lasting, Lasts, isReset, step-lasts, supported-lasts, limit-lasts}
+use Rattle.model.proofs.Lasting.{lasting, Lasts, step-lasts, supported-lasts, limit-lasts}
 use Rattle.model.proofs.Flags.{reset-taken, sample-taken, read-taken, flag-seen}
 use Rattle.model.proofs.Since.{flag-since}
 use Rattle.model.proofs.Sound.{Good, good-run}

@@ -9,15 +9,14 @@ use native.Mathlib.Omega.{arith}
 use lib.Dec.{ltb}
 use lib.ListN.{length}
 use borrow.Author.Tests.{ltb-true, ltb-false}
-use Rattle.laws.specs.Tests.{if_then_else_}
 use Rattle.laws.specs.Lists.{at}
 use Rattle.laws.proofs.Tests.{case}
 use Rattle.model.specs.Ports.{Port, operator, recorder, Places, reset, Call}
 use Rattle.model.specs.Map.{memorySize, recordSize, stateSize, base}
 use Rattle.model.specs.Interrupt.{stands}
-use Rattle.model.specs.Calls.{Answer, Calls, start, _▷_, _▷▷_}
-use Rattle.model.specs.Bytes.{stateOf, refusalOf, after, answerOf, runs}
-use Rattle.model.specs.Demands.{concerns, only, tells}
+use Rattle.model.specs.Calls.{Calls, start, _▷_, _▷▷_}
+use Rattle.model.specs.Bytes.{stateOf, refusalOf, after, runs}
+use Rattle.model.specs.Demands.{concerns, only, tells, answers}
 use Rattle.model.proofs.Bytes.{runs-length, state-runs, memory-at, record-at, answer-long}
 use Rattle.model.proofs.Fence.{Same, operator-memory}
 use Rattle.model.proofs.Views.{tellsOn, told-operator, port-view}
@@ -69,11 +68,6 @@ recorder-undisturbed s img b h k q =
     }
 
 -- ---- the second half
-
--- all that the operator is answered, by its own calls, the samples and the resets; the newest first
-unfoldable pub answers : List ℕ → Calls → List Answer
-answers s start = []
-answers s (h ▷ c) = if concerns operator c then answerOf (runs s h) operator c ∷ answers s h else answers s h
 
 -- "And dropping any recorder calls changes no operator answer and no state byte outside the recorder's record."
 pub record OperatorAgrees (s : List ℕ) (h k : Calls) : Type 0 where

@@ -21,6 +21,7 @@ use Rattle.model.specs.Samples.{Quantity, value, offered, stored, condit
 use Rattle.model.specs.Writing.{classOf, written, entered, store, puts}
 use Rattle.model.specs.Reading.{shared}
 use Rattle.model.specs.Readout.{quantity, limit, over, divisor}
+use Rattle.model.specs.Demands.{isReset}
 use Rattle.model.specs.Calls.{done, step}
 
 -- ---- the places
@@ -131,12 +132,6 @@ puts-lasts m p g a (v ∷ vs) = then-lasts (puts-lasts (store m p v (seat g a)) 
 pub fresh-lasting : (img : List ℕ) (i old : ℕ) → lasting i ≡ true → fresh img i old ≡ at img i
 unfolding fresh
 fresh-lasting img i old e = let r = apart i e in rw (r .no-status, r .no-emptied, r .no-page02)
-
-abbrev pub isReset : Call → Bool
-isReset (reset img) = true
-isReset (sample x) = false
-isReset (read n a k out) = false
-isReset (write n a vs) = false
 
 done-lasts : (m : State) (c : Call) → isReset c ≡ false → Lasts (done m c .mem) (m .mem)
 unfolding done

@@ -10,7 +10,7 @@ use Rattle.model.specs.Reading.{seen, shared}
 use Rattle.model.specs.Writing.{Class, classOf}
 use Rattle.model.specs.Interrupt.{Pair, pairs}
 use Rattle.model.specs.Calls.{Answer, answerWith, Calls, start, _▷_, _▷▷_}
-use Rattle.model.specs.Bytes.{stateOf, runs}
+use Rattle.model.specs.Bytes.{stateOf, answerOf, runs}
 
 -- ---- who made a call
 
@@ -29,6 +29,12 @@ concerns p (write n a vs) = isBy p n
 unfoldable pub only : Port → Calls → Calls
 only p start = start
 only p (h ▷ c) = if concerns p c then only p h ▷ c else only p h
+
+abbrev pub isReset : Call → Bool
+isReset (reset img) = true
+isReset (sample x) = false
+isReset (read n a k out) = false
+isReset (write n a vs) = false
 
 -- ---- demand 2, flags: with no state in it
 
@@ -117,3 +123,8 @@ told p m c = answerWith m p (veiled m p) c
 unfoldable pub tells : Port → List ℕ → Calls → List Answer
 tells p s start = []
 tells p s (h ▷ c) = if concerns p c then told p (stateOf (runs s h)) c ∷ tells p s h else tells p s h
+
+-- all that the operator is answered, by its own calls, the samples and the resets; the newest first
+unfoldable pub answers : List ℕ → Calls → List Answer
+answers s start = []
+answers s (h ▷ c) = if concerns operator c then answerOf (runs s h) operator c ∷ answers s h else answers s h
