@@ -3,7 +3,7 @@
 use mathlib.Core.Path.{_≡_, sym, ap, _∙_}
 use mathlib.Core.Bool.{true, false}
 use Prim.Native.Nat.{ℕ, zero, suc, _+_, _-_, _*_, _/_, _%_, _^_, _≤_, _<_, min, max}
-use native.Mathlib.Nat.{div-one, zero-div, div-eq-of-lt, mul-comm, pow-suc, div-div-eq-div-mul, mod-lt}
+use native.Mathlib.Nat.{zero-div, div-eq-of-lt, mod-lt}
 use native.Mathlib.Omega.{arith}
 use lib.Arith.{digits-div, digits-mod}
 use lib.Bits.{bitAnd, bitOr, bitXor, differ, and-step, and-shr, or-step, or-shr, or-mod, or-zero-r, xor-step, xor-shr}
@@ -21,13 +21,6 @@ bit-small j n = omega arith
 
 pub bit-none : (j : ℕ) → bit j 0 ≡ 0
 bit-none j = ap (λ (q : ℕ). q % 2) (zero-div (2 ^ j))
-
-pub bit-zero : (n : ℕ) → bit 0 n ≡ n % 2
-bit-zero n = rw div-one
-
--- bit j + 1 of a number is bit j of its half
-pub bit-suc : (j n : ℕ) → bit (suc j) n ≡ bit j (n / 2)
-bit-suc j n = ap (λ (x : ℕ). x % 2) (ap (λ (x : ℕ). n / x) (pow-suc 2 j ∙ mul-comm (2 ^ j) 2) ∙ sym (div-div-eq-div-mul n 2 (2 ^ j)))
 
 pub has-bit : (j n : ℕ) → has j n ≡ true → bit j n ≡ 1
 has-bit j n e = eqb-true (bit j n) 1 e

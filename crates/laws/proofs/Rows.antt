@@ -8,7 +8,7 @@ use mathlib.Core.List.{List, [], _∷_, _++_, List·Memᴰ, List·Memᴰ·cases-
 use mathlib.Core.Logic.{⊎-elim}
 use Prim.Native.Nat.{ℕ, _≤_, _<_}
 use lib.Dec.{ltb, eqb}
-use borrow.Author.Tests.{eqb-true, eqb-false, eq-eqb, ne-eqb, ltb-true}
+use borrow.Author.Tests.{not-true, eqb-true, eqb-false, eq-eqb, ne-eqb, ltb-true}
 use native.Mathlib.Nat.{le-refl}
 use native.Mathlib.Omega.{arith}
 use Rattle.laws.specs.Tests.{Row, firstOf, noneOf}
@@ -29,20 +29,16 @@ abbrev pub lacks : ℕ → List Row → Bool
 lacks k [] = not (eqb k 0)
 lacks k (r ∷ rs) = not (eqb k (r .0)) && lacks k rs
 
-not-of : (b : Bool) → not b ≡ true → b ≡ false
-not-of true e = sym e
-not-of false e = refl
-
 pub first-lacks : (k : ℕ) (rs : List Row) → lacks k rs ≡ true → firstOf rs ≢ k
-first-lacks k [] e z = eqb-false k 0 (not-of (eqb k 0) e) (sym z)
-first-lacks k ((n, true) ∷ rs) e z = eqb-false k n (not-of (eqb k n) (and-left (not (eqb k n)) (lacks k rs) e)) (sym z)
+first-lacks k [] e z = eqb-false k 0 (not-true (eqb k 0) e) (sym z)
+first-lacks k ((n, true) ∷ rs) e z = eqb-false k n (not-true (eqb k n) (and-left (not (eqb k n)) (lacks k rs) e)) (sym z)
 first-lacks k ((n, false) ∷ rs) e z = first-lacks k rs (and-right (not (eqb k n)) (lacks k rs) e) z
 
 -- rows of which the earlier ones don't apply
 pub first-skip : (before after : List Row) → noneOf before ≡ true → firstOf (before ++ after) ≡ firstOf after
 first-skip [] after e = refl
 first-skip (r ∷ rs) after e =
-    rw (not-of (r .1) (and-left (not (r .1)) (noneOf rs) e)) (first-skip rs after (and-right (not (r .1)) (noneOf rs) e))
+    rw (not-true (r .1) (and-left (not (r .1)) (noneOf rs) e)) (first-skip rs after (and-right (not (r .1)) (noneOf rs) e))
 
 -- given that no earlier row applies, a row's number is given exactly when its test passes
 pub first-exact : (before after : List Row) (k : ℕ) (t : Bool) → noneOf before ≡ true → lacks k after ≡ true
@@ -57,7 +53,7 @@ first-none rs e = (to rs e, of rs)
   where
     to : (rs : List Row) → named rs ≡ true → firstOf rs ≡ 0 → noneOf rs ≡ true
     to [] e z = refl
-    to ((n, true) ∷ rs) e z = absurd (eqb-false n 0 (not-of (eqb n 0) (and-left (not (eqb n 0)) (named rs) e)) z)
+    to ((n, true) ∷ rs) e z = absurd (eqb-false n 0 (not-true (eqb n 0) (and-left (not (eqb n 0)) (named rs) e)) z)
     to ((n, false) ∷ rs) e z = to rs (and-right (not (eqb n 0)) (named rs) e) z
 
     of : (rs : List Row) → noneOf rs ≡ true → firstOf rs ≡ 0

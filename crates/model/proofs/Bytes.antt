@@ -1,7 +1,6 @@
 -- Bytes and states are the same thing, and a run on the bytes is the model's run.
 -- Assumes nothing.
 use mathlib.Core.Path.{_≡_, refl, sym, ap, _∙_, fun-ext, subst}
-use mathlib.Core.Bool.{false}
 use mathlib.Core.List.{List}
 use Prim.Native.Nat.{ℕ, _+_, _-_, _<_}
 use native.Mathlib.Omega.{arith}
@@ -15,7 +14,7 @@ use Rattle.laws.proofs.Tests.{case}
 use Rattle.laws.proofs.Lists.{table-at, table-length}
 use Rattle.model.specs.Ports.{Port, operator, recorder, State, Call}
 use Rattle.model.specs.Map.{memorySize, recordSize, stateSize, base}
-use Rattle.model.specs.Refusals.{wrongSize, refusal, accepted}
+use Rattle.model.specs.Refusals.{refusal, accepted}
 use Rattle.model.specs.Calls.{done, step, answer, Calls, start, _▷_, run}
 use Rattle.model.specs.Bytes.{stateOf, place, bytesOf, rowsOf, refusalOf, after, answerOf, runs}
 use Rattle.model.proofs.Fits.{Fits, fits-of, fits-done}
@@ -100,9 +99,6 @@ pub bytes-state : (s : List ℕ) → length s ≡ stateSize → bytesOf (stateOf
 bytes-state s e = sym (bytes-by-place (stateOf s) s e (λ i h. sym (place-state s i h)))
 
 -- ---- a run on the bytes is the model's run
-
-pub size-right : (s : List ℕ) → length s ≡ stateSize → wrongSize s ≡ false
-size-right s e = rw e
 
 pub refusal-long : (s : List ℕ) (c : Call) → length s ≡ stateSize → refusalOf s c ≡ refusal (stateOf s) c
 unfolding refusalOf rowsOf refusal

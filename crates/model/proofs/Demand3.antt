@@ -16,7 +16,7 @@ use Rattle.model.specs.Map.{memorySize, recordSize, stateSize, base}
 use Rattle.model.specs.Interrupt.{stands}
 use Rattle.model.specs.Calls.{Calls, start, _▷_, _▷▷_}
 use Rattle.model.specs.Bytes.{stateOf, refusalOf, after, runs}
-use Rattle.model.specs.Demands.{concerns, only, tells, answers}
+use Rattle.model.specs.Demands.{heard, concerns, only, tells, answers}
 use Rattle.model.proofs.Bytes.{runs-length, state-runs, memory-at, record-at, answer-long}
 use Rattle.model.proofs.Fence.{Same, operator-memory}
 use Rattle.model.proofs.Views.{tellsOn, told-operator, port-view}
@@ -31,7 +31,7 @@ only-on p h k q (c ∷ cs) = only-on p (h ▷ c) (k ▷ c) (rw q) cs
 
 -- what a port is told on the bytes is what it is told in the model
 tells-state : (p : Port) (s : List ℕ) → length s ≡ stateSize → (h : Calls) → tells p s h ≡ tellsOn p (stateOf s) h
-unfolding tells tellsOn
+unfolding heard tellsOn
 tells-state p s e start = refl
 tells-state p s e (h ▷ c) = rw (state-runs s h e, tells-state p s e h)
 
@@ -76,7 +76,7 @@ pub record OperatorAgrees (s : List ℕ) (h k : Calls) : Type 0 where
   pub answers-same : answers s h ≡ answers s k
 
 answers-told : (s : List ℕ) → length s ≡ stateSize → (h : Calls) → answers s h ≡ tells operator s h
-unfolding answers tells
+unfolding heard
 answers-told s e start = refl
 answers-told s e (h ▷ c) =
     rw (answer-long (runs s h) operator c (runs-length s h e), ← told-operator (stateOf (runs s h)) c, answers-told s e h)

@@ -124,17 +124,17 @@ give-out operator recorder e m f = record { own-same = refl; mem-same = refl }
 give-out recorder operator e m f = record { own-same = refl; mem-same = refl }
 give-out recorder recorder e m f = absurd (true≢false e)
 
--- nobody's call is refused
-nobody-out : (m : State) (c : Call) → accepted m c ≡ false → (p : Port) → Same p (step m c) m
+-- a refused call changes nothing
+refused-out : (m : State) (c : Call) → accepted m c ≡ false → (p : Port) → Same p (step m c) m
 unfolding step
-nobody-out m c e p = rw e (same-refl p m)
+refused-out m c e p = rw e (same-refl p m)
 
 pub step-out : (p : Port) (m : State) (c : Call) → concerns p c ≡ false → Same p (step m c) m
 step-out p m (reset img) e = absurd (true≢false e)
 step-out p m (sample x) e = absurd (true≢false e)
 step-out p m (read n a k out) e = case (nobody n)
-    (λ t. nobody-out m (read n a k out) (unfold refusal rows in rw t) p)
+    (λ t. refused-out m (read n a k out) (unfold refusal rows in rw t) p)
     (λ t. unfold step done in if-elim (λ (s : State). Same p s m) (accepted m (read n a k out)) (λ u. give-out p (caller n) (rw t at e) m _) (λ u. same-refl p m))
 step-out p m (write n a vs) e = case (nobody n)
-    (λ t. nobody-out m (write n a vs) (unfold refusal rows in rw t) p)
+    (λ t. refused-out m (write n a vs) (unfold refusal rows in rw t) p)
     (λ t. unfold step done in if-elim (λ (s : State). Same p s m) (accepted m (write n a vs)) (λ u. puts-out p (caller n) (rw t at e) m (m .own (caller n) pageAt) a vs) (λ u. same-refl p m))

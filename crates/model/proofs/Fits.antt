@@ -3,6 +3,7 @@
 use mathlib.Core.Path.{_≡_, refl, _∙_}
 use mathlib.Core.Bool.{true, false, false≢true}
 use mathlib.Core.List.{List, [], _∷_}
+use mathlib.Core.Logic.{inr}
 use Prim.Native.Nat.{ℕ, suc, _≤_}
 use native.Mathlib.Omega.{arith}
 use lib.Dec.{eqb}
@@ -15,11 +16,11 @@ use Rattle.model.specs.Map.{memorySize, recordSize, flags, paged, pageAt
 use Rattle.model.specs.Reset.{emptied, fresh}
 use Rattle.model.specs.Samples.{raised}
 use Rattle.model.specs.Reading.{cleared, shared}
-use Rattle.model.specs.Writing.{ownClass, written, entered, store, puts}
+use Rattle.model.specs.Writing.{store, puts}
 use Rattle.model.specs.Refusals.{rows, refusal, accepted}
 use Rattle.model.specs.Calls.{done}
 use Rattle.model.specs.Bytes.{stateOf}
-use Rattle.model.proofs.Ports.{give-elim}
+use Rattle.model.proofs.Ports.{give-elim, entered-none}
 use Rattle.model.proofs.Lasting.{stored-high, off-list}
 
 -- ---- nothing stands past the ends
@@ -31,11 +32,6 @@ pub record Fits (m : State) : Type 0 where
 pub fits-of : (s : List ℕ) → Fits (stateOf s)
 unfolding stateOf
 fits-of s = record { mem-end = λ i h. rw (le-ltb i memorySize h); own-end = λ p k h. rw (le-ltb k recordSize h) }
-
-entered-end : (mem : Places) (j v : ℕ) (o : Places) (k : ℕ) → recordSize ≤ k → entered mem ownClass j v o k ≡ o k
-unfolding written
-entered-end mem j v o k h =
-    if-both (eqb k j) (rw (ne-eqb k 15 (λ e. omega arith), ne-eqb k 16 (λ e. omega arith), ne-eqb k pageAt (λ e. omega arith), covers-above 12 11 k (omega arith))) refl
 
 shared-end : (i : ℕ) → memorySize ≤ i → shared i ≡ false
 unfolding shared
@@ -71,7 +67,7 @@ give-fits m q f t e = record {
 fits-store : (m : State) (q : Port) (v : ℕ) (s : Seat) → Fits m → Fits (store m q v s)
 unfolding store
 fits-store m q v (flag k) t = t
-fits-store m q v (mine k) t = give-fits m q _ t (entered-end (m .mem) k v (m .own q))
+fits-store m q v (mine k) t = give-fits m q _ t (λ j h. entered-none (m .mem) k v (m .own q) j (inr h))
 fits-store m q v (common i) t = record { mem-end = λ j h. off-list q (m .mem) j i v (shared-end j h) ∙ t .mem-end j h; own-end = t .own-end }
 fits-store m q v status t = t
 fits-store m q v blank t = t

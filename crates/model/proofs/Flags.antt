@@ -3,24 +3,24 @@
 use mathlib.Core.Path.{_≡_, refl, sym, ap, _∙_}
 use mathlib.Core.Bool.{Bool, true, false, not, _&&_, and-false}
 use mathlib.Core.List.{List, [], _∷_}
+use mathlib.Core.Logic.{inl}
 use Prim.Native.Nat.{ℕ, suc, _+_, _-_, _<_}
 use native.Mathlib.Omega.{arith}
 use lib.Bits.{bitOr, or-zero-r}
-use lib.Dec.{eqb}
 use lib.ListN.{length}
-use borrow.Author.Tests.{lt-ltb, ne-eqb}
+use borrow.Author.Tests.{lt-ltb}
 use Rattle.laws.specs.Tests.{if_then_else_, covers, noneOf}
-use Rattle.laws.proofs.Tests.{case, if-both, covers-below, covers-in}
+use Rattle.laws.proofs.Tests.{case, covers-in}
 use Rattle.laws.proofs.Rows.{first-taken}
 use Rattle.model.specs.Ports.{Port, operator, recorder, Places, State, Call, reset, sample, read, write, caller, nobody, same, give}
 use Rattle.model.specs.Map.{flags, pageAt, Seat, flag, mine, common, status, blank, seat}
 use Rattle.model.specs.Samples.{conds, raised}
 use Rattle.model.specs.Reading.{look, seen, cleared}
-use Rattle.model.specs.Writing.{ownClass, written, entered, store, puts}
+use Rattle.model.specs.Writing.{store, puts}
 use Rattle.model.specs.Refusals.{refusal, rows, resetRows, sampleRows, readRows, accepted}
 use Rattle.model.specs.Calls.{done, step}
 use Rattle.model.specs.Demands.{wipes}
-use Rattle.model.proofs.Ports.{give-elim}
+use Rattle.model.proofs.Ports.{give-elim, entered-none}
 use Rattle.model.proofs.Sound.{Good}
 
 -- ---- what is accepted in a sound state goes by the call's own arguments
@@ -40,15 +40,10 @@ read-taken m n a k out g = first-taken (rows m (read n a k out)) refl ∙ rw (g 
 -- ---- writes and reads, and a flag byte
 
 -- nothing writes a flag
-flag-entered : (k : ℕ) → k < flags .many → (mem : Places) (i v : ℕ) (o : Places) → entered mem ownClass i v o k ≡ o k
-unfolding written
-flag-entered k l mem i v o =
-    if-both (eqb k i) (rw (ne-eqb k 15 (λ e. omega arith), ne-eqb k 16 (λ e. omega arith), ne-eqb k pageAt (λ e. omega arith), covers-below 12 11 k l)) refl
-
 flag-store : (k : ℕ) → k < flags .many → (m : State) (p q : Port) (v : ℕ) (s : Seat) → store m q v s .own p k ≡ m .own p k
 unfolding store
 flag-store k l m p q v (flag i) = refl
-flag-store k l m p q v (mine i) = give-elim (λ r o. o k ≡ m .own r k) (m .own) q _ (flag-entered k l (m .mem) i v (m .own q)) (λ r. refl) p
+flag-store k l m p q v (mine i) = give-elim (λ r o. o k ≡ m .own r k) (m .own) q _ (entered-none (m .mem) i v (m .own q) k (inl l)) (λ r. refl) p
 flag-store k l m p q v (common i) = refl
 flag-store k l m p q v status = refl
 flag-store k l m p q v blank = refl

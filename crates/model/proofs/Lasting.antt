@@ -17,7 +17,7 @@ use Rattle.model.specs.Ports.{Port, operator, recorder, Places, State, C
 use Rattle.model.specs.Map.{pageSize, paged, inPage, memorySize, statusAt, optionsAt, pageAt, supported, Seat, flag, mine, common, status, blank, seat}
 use Rattle.model.specs.Refusals.{accepted}
 use Rattle.model.specs.Reset.{emptied, inPage02, fresh}
-use Rattle.model.specs.Samples.{Quantity, value, offered, stored, conditions, conds}
+use Rattle.model.specs.Samples.{value, stored, conditions, conds}
 use Rattle.model.specs.Writing.{classOf, written, entered, store, puts}
 use Rattle.model.specs.Reading.{shared}
 use Rattle.model.specs.Readout.{quantity, limit, over, divisor}
@@ -151,10 +151,6 @@ pub supported-lasts : {f g : Places} → Lasts f g → (x : ℕ) → supported f
 unfolding supported lasting
 supported-lasts l x = rw (l .flat, l .places optionsAt refl)
 
-pub offered-lasts : {f g : Places} → Lasts f g → (q : Quantity) → offered f q ≡ offered g q
-unfolding lasting
-offered-lasts l q = rw (l .places (paged 0 220) refl)
-
 -- the memory with all other places blanked
 keep : Places → Places
 keep f i = if lasting i then f i else 0
@@ -180,9 +176,9 @@ limits-at (suc (suc (suc zero))) = (omega arith, omega arith)
 limits-at (suc (suc (suc (suc zero)))) = (omega arith, omega arith)
 limits-at (suc (suc (suc (suc (suc n))))) = (omega arith, omega arith)
 
-threshold : (i : ℕ) → paged 3 128 ≤ i → i < paged 3 200 → lasting i ≡ true
+threshold-lasting : (i : ℕ) → paged 3 128 ≤ i → i < paged 3 200 → lasting i ≡ true
 unfolding lasting
-threshold i h k = rw (ne-eqb i optionsAt (λ e. omega arith), ne-eqb i (paged 0 220) (λ e. omega arith), covers-in (paged 3 128) 72 i h k)
+threshold-lasting i h k = rw (ne-eqb i optionsAt (λ e. omega arith), ne-eqb i (paged 0 220) (λ e. omega arith), covers-in (paged 3 128) 72 i h k)
 
 pub limit-lasts : {f g : Places} → Lasts f g → (n w : ℕ) → w < 4 → limit f n w ≡ limit g n w
 unfolding limit
@@ -190,4 +186,4 @@ limit-lasts {f} {g} l n w h =
     let (a, b) = limits-at n in
     let i = paged 3 (quantity n .limits + 2 * w) in
     ap₂ (λ (x y : ℕ). over (value (quantity n .kind) (x * 256 + y)) (divisor (quantity n .kind)))
-    (l .places i (threshold i (omega arith) (omega arith))) (l .places (i + 1) (threshold (i + 1) (omega arith) (omega arith)))
+    (l .places i (threshold-lasting i (omega arith) (omega arith))) (l .places (i + 1) (threshold-lasting (i + 1) (omega arith) (omega arith)))

@@ -17,8 +17,8 @@ use Rattle.laws.specs.Bits.{bit}
 use Rattle.laws.specs.Lists.{at}
 use Rattle.laws.proofs.Tests.{one-le, beq-same, and-left, and-right}
 use Rattle.model.specs.Ports.{Places, State, nobody, caller, read, write}
-use Rattle.model.specs.Map.{paged, sound, seat}
-use Rattle.model.specs.Samples.{word, degrees, value, Quantity, temperature, supply, rxPower, numberOf, limitOf, fourOf, conditions, conds}
+use Rattle.model.specs.Map.{sound, seat}
+use Rattle.model.specs.Samples.{degrees, value, temperature, supply, rxPower, threshold, sampled, limitOf, fourOf, conditions, conds}
 use Rattle.model.specs.Readout.{Exactly, over, divisor}
 use Rattle.model.specs.Refusals.{readRows, writeRows, allMine, refusal, rows as refusalRows}
 
@@ -39,14 +39,6 @@ rxLimits = 0x8A99 ∷ 0x00FB ∷ 0x6E18 ∷ 0x01F5 ∷ []
 -- f 0, f 1 and so on are the numbers of a list
 abbrev pub Are : (ℕ → ℕ) → List ℕ → Type 0
 Are f l = (i : ℕ) → i < length l → f i ≡ at l i
-
--- threshold w of a quantity, as it is stored: 0 high alarm, 1 low alarm, 2 high warning, 3 low warning
-abbrev pub threshold : Places → Quantity → ℕ → ℕ
-threshold mem q w = word mem (paged 3 (q .limits + 2 * w))
-
--- channel c of a quantity, as it is sampled
-abbrev pub sampled : List ℕ → Quantity → ℕ → ℕ
-sampled x q c = numberOf x (q .number + c)
 
 abbrev pub Holds : Row → Type 0
 Holds (gains a b g) =

@@ -13,7 +13,7 @@ use Rattle.laws.specs.Bits.{splice}
 use Rattle.laws.proofs.Tests.{case, and-left, and-right, and-both, if-both}
 use Rattle.laws.proofs.Bits.{or-high, splice-low}
 use Rattle.model.specs.Ports.{Port, Places, State, Call, reset, sample, read, write, caller, give}
-use Rattle.model.specs.Map.{pageAt, supported, tidy, sound, Seat, flag, mine, common, status, blank, seat}
+use Rattle.model.specs.Map.{temperatureFlags, supplyFlags, vendorFlags, temperatureMask, supplyMask, flagOf, lowMaskOf, pageAt, supported, tidy, sound, Seat, flag, mine, common, status, blank, seat}
 use Rattle.model.specs.Refusals.{accepted}
 use Rattle.model.specs.Samples.{conditions, conds, raised}
 use Rattle.model.specs.Reading.{cleared}
@@ -28,11 +28,11 @@ pub record Good (m : State) : Type 0 where
 
 -- the tests of a record, as facts
 record Tidy (o : Places) : Type 0 where
-  f8 : o 5 ≡ 0
-  f6 : o 3 % 16 ≡ 0
-  f7 : o 4 % 16 ≡ 0
-  m103 : o 15 % 16 ≡ 0
-  m104 : o 16 % 16 ≡ 0
+  f8 : o (flagOf vendorFlags) ≡ 0
+  f6 : o (flagOf temperatureFlags) % 16 ≡ 0
+  f7 : o (flagOf supplyFlags) % 16 ≡ 0
+  m103 : o (lowMaskOf temperatureMask) % 16 ≡ 0
+  m104 : o (lowMaskOf supplyMask) % 16 ≡ 0
 
 tidy-to : (o : Places) → tidy o ≡ true → Tidy o
 unfolding tidy

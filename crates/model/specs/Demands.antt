@@ -119,12 +119,15 @@ veiled m p a = if hidden p (seat (m .own p pageAt) a) then 0 else seen (m .mem) 
 unfoldable pub told : Port → State → Call → Answer
 told p m c = answerWith m p (veiled m p) c
 
--- all that port p is told in a history of calls on the bytes, by its own calls, the samples and the resets; the newest first
-unfoldable pub tells : Port → List ℕ → Calls → List Answer
-tells p s start = []
-tells p s (h ▷ c) = if concerns p c then told p (stateOf (runs s h)) c ∷ tells p s h else tells p s h
+-- what is said in a history of calls on the bytes, by port p's own calls, the samples and the resets; the newest first
+unfoldable pub heard : Port → (List ℕ → Call → Answer) → List ℕ → Calls → List Answer
+heard p say s start = []
+heard p say s (h ▷ c) = if concerns p c then say (runs s h) c ∷ heard p say s h else heard p say s h
 
--- all that the operator is answered, by its own calls, the samples and the resets; the newest first
-unfoldable pub answers : List ℕ → Calls → List Answer
-answers s start = []
-answers s (h ▷ c) = if concerns operator c then answerOf (runs s h) operator c ∷ answers s h else answers s h
+-- all that port p is told
+abbrev pub tells : Port → List ℕ → Calls → List Answer
+tells p s h = heard p (λ t c. told p (stateOf t) c) s h
+
+-- all that the operator is answered
+abbrev pub answers : List ℕ → Calls → List Answer
+answers s h = heard operator (λ t c. answerOf t operator c) s h

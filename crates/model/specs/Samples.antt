@@ -77,17 +77,24 @@ offered mem q = not (q .optional) || has 2 (mem (paged 0 220))
 -- ---- conditions
 
 -- threshold w of a quantity: 0 high alarm, 1 low alarm, 2 high warning, 3 low warning
+abbrev pub threshold : Places → Quantity → ℕ → ℕ
+threshold mem q w = word mem (paged 3 (q .limits + 2 * w))
+
 abbrev pub limitOf : Places → Quantity → ℕ → ℤ
-limitOf mem q w = value (q .kind) (word mem (paged 3 (q .limits + 2 * w)))
+limitOf mem q w = value (q .kind) (threshold mem q w)
+
+-- channel c (from 0) of a quantity, as it is sampled
+abbrev pub sampled : List ℕ → Quantity → ℕ → ℕ
+sampled x q c = numberOf x (q .number + c)
 
 -- "A high condition holds if the number is greater than its threshold, a low one if it is less"; in that order from bit 3 down
 abbrev pub fourOf : ℤ → (ℕ → ℤ) → ℕ
 fourOf n limit =
     8 * one (ltZ (limit 0) n) + 4 * one (ltZ n (limit 1)) + 2 * one (ltZ (limit 2) n) + one (ltZ n (limit 3))
 
--- the one rule: the conditions of channel c (from 0) of a quantity
+-- the one rule: the conditions of channel c of a quantity
 unfoldable pub conditions : Places → List ℕ → Quantity → ℕ → ℕ
-conditions mem x q c = if ltb c (q .channels) then fourOf (value (q .kind) (numberOf x (q .number + c))) (limitOf mem q) else 0
+conditions mem x q c = if ltb c (q .channels) then fourOf (value (q .kind) (sampled x q c)) (limitOf mem q) else 0
 
 -- "odd channel in bits 7 to 4, even channel in 3 to 0": flag byte j (from 0) of a quantity
 abbrev pub flagByte : Places → List ℕ → Quantity → ℕ → ℕ
