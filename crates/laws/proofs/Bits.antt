@@ -3,10 +3,10 @@
 use mathlib.Core.Path.{_≡_, sym, ap, _∙_}
 use mathlib.Core.Bool.{true, false}
 use Prim.Native.Nat.{ℕ, zero, suc, _+_, _-_, _*_, _/_, _%_, _^_, _≤_, _<_, min, max}
-use native.Mathlib.Nat.{zero-div, div-eq-of-lt, mod-lt}
+use native.Mathlib.Nat.{zero-div, div-eq-of-lt, mod-lt, lt-of-le-of-lt}
 use native.Mathlib.Omega.{arith}
 use lib.Arith.{digits-div, digits-mod}
-use lib.Bits.{bitAnd, bitOr, bitXor, differ, and-step, and-shr, or-step, or-shr, or-mod, or-zero-r, xor-step, xor-shr}
+use lib.Bits.{bitAnd, bitOr, bitXor, differ, and-step, and-shr, and-le-l, or-step, or-shr, or-mod, or-zero-r, xor-step, xor-shr, xor-lt}
 use lib.Dec.{ltb}
 use lib.Pow.{split, field, mod-mod-pow, shr-shr, pow-pos}
 use borrow.Author.Tests.{eqb-true, eqb-false, eq-eqb, ne-eqb, ltb-true, ltb-false}
@@ -56,6 +56,10 @@ pub bit-or : (j a b : ℕ) → bit j (bitOr a b) ≡ max (bit j a) (bit j b)
 bit-or j a b =
     ap (λ (x : ℕ). x % 2) (or-shr a b j ∙ or-step (a / 2 ^ j) (b / 2 ^ j))
     ∙ digits-mod (bitOr (a / 2 ^ j / 2) (b / 2 ^ j / 2)) (omega arith)
+
+-- a number with some of its bits taken away has no more bits
+pub without-lt : (w a b : ℕ) → a < 2 ^ w → bitXor a (bitAnd a b) < 2 ^ w
+without-lt w a b h = xor-lt w a (bitAnd a b) h (lt-of-le-of-lt (and-le-l a b) h)
 
 -- a bit of an OR is 1 exactly if it is in one of the two
 pub or-bit-other : (j a b : ℕ) → bit j (bitOr a b) ≡ 1 → bit j a ≡ 0 → bit j b ≡ 1

@@ -3,16 +3,16 @@
 use mathlib.Core.Path.{_≡_, refl, sym, ap, _∙_}
 use mathlib.Core.Logic.{_≢_}
 use mathlib.Core.List.{List}
-use Prim.Native.Nat.{ℕ, zero, suc, _+_, _-_, _≤_, _<_}
+use Prim.Native.Nat.{ℕ, zero, suc, _+_, _-_, _≤_, _<_, min, max}
 use native.Mathlib.Nat.{not-suc-le-zero, le-of-suc-le-suc}
 use native.Mathlib.Omega.{arith}
-use lib.Dec.{eqb}
+use lib.Dec.{ltb, eqb}
 use lib.ListN.{length, set, length-set, length-take, length-drop}
 use lib.Seq.{ext-getD, getD-set-same, getD-set-other, getD-take, getD-drop}
-use borrow.Author.Tests.{eqb-true, eqb-false}
+use borrow.Author.Tests.{eqb-true, eqb-false, ltb-true, ltb-false}
 use Rattle.laws.specs.Tests.{if_then_else_, covers}
 use Rattle.laws.specs.Lists.{at, part, table, patch}
-use Rattle.laws.proofs.Tests.{case, covers-in, covers-below, covers-above, covers-true, covers-more}
+use Rattle.laws.proofs.Tests.{case, not-both, covers-in, covers-below, covers-above, covers-true, covers-none}
 
 -- ---- tables
 
@@ -55,6 +55,25 @@ module _ (a n : ℕ) (f : ℕ → ℕ) (s : List ℕ) where
   pub patch-above : (i : ℕ) → i < length s → a + n ≤ i → at (patch a n f s) i ≡ at s i
   patch-above i h l = patch-at i h ∙ rw (covers-above a n i l)
 
+  pub patch-else : (i : ℕ) → i < length s → (a ≤ i → i < a + n → ⊥) → at (patch a n f s) i ≡ at s i
+  patch-else i h l = patch-at i h ∙ rw (covers-none a n i l)
+
+  -- a list is this one if it has the values in the run, and elsewhere what was there
+  pub is-patch : (l : List ℕ) → length l ≡ length s → ((j : ℕ) → j < n → a + j < length s → at l (a + j) ≡ f j)
+      → ((i : ℕ) → i < length s → (a ≤ i → i < a + n → ⊥) → at l i ≡ at s i) → l ≡ patch a n f s
+  unfolding patch
+  is-patch l e inside outside =
+      is-table l (length s) (λ i. if covers a n i then f (i - a) else at s i) e
+      (λ i h. case (covers a n i)
+      (λ t. let r = covers-true a n i t in
+      let z : a + (i - a) ≡ i = omega arith in rw t (rw z at (inside (i - a) (omega arith) (omega arith))))
+      (λ t. rw t (outside i h (λ u v. not-both (covers a n i) (covers-in a n i u v) t))))
+
+-- only the values in the run matter
+pub patch-same : (a n : ℕ) (f g : ℕ → ℕ) (s : List ℕ) → ((j : ℕ) → j < n → f j ≡ g j) → patch a n f s ≡ patch a n g s
+patch-same a n f g s same =
+    is-patch a n g s (patch a n f s) (patch-length a n f s) (λ j h l. patch-in a n f s j h l ∙ same j h) (patch-else a n f s)
+
 pub at-set : (s : List ℕ) (j v i : ℕ) → j < length s → at (set s j v) i ≡ (if eqb i j then v else at s i)
 at-set s j v i h = case (eqb i j)
     (λ t. let e = eqb-true i j t in rw (t, e) (getD-set-same s j v 0 h))
@@ -63,22 +82,19 @@ at-set s j v i h = case (eqb i j)
 -- a loop that replaces them one after the other
 module _ (a : ℕ) (f : ℕ → ℕ) (s : List ℕ) where
   pub patch-none : s ≡ patch a 0 f s
-  unfolding patch
-  patch-none =
-      is-table s (length s) (λ i. if covers a 0 i then f (i - a) else at s i) refl
-      (λ i h. case (covers a 0 i) (λ t. let r = covers-true a 0 i t in let u = r .0 in let v = r .1 in absurd (omega arith)) (λ t. rw t))
+  patch-none = is-patch a 0 f s s refl (λ j l h. absurd (omega arith)) (λ i h no. refl)
 
   -- the next place is still as it was
   pub patch-next : (k : ℕ) → a + k < length s → at (patch a k f s) (a + k) ≡ at s (a + k)
   patch-next k h = patch-above a k f s (a + k) h (omega arith)
 
   patch-grow : (t : List ℕ) (k : ℕ) → length t ≡ length s → at t (a + k) ≡ f k → ((i : ℕ) → i < length s → i ≢ a + k → at t i ≡ at (patch a k f s) i) → t ≡ patch a (k + 1) f s
-  unfolding patch
   patch-grow t k e here else-where =
-      is-table t (length s) (λ i. if covers a (k + 1) i then f (i - a) else at s i) e
-      (λ i h. case (eqb i (a + k))
-      (λ q. let z = eqb-true i (a + k) q in let d : a + k - a ≡ k = omega arith in rw (z, covers-in a (k + 1) (a + k) (omega arith) (omega arith), d) here)
-      (λ q. let z = eqb-false i (a + k) q in else-where i h z ∙ patch-at a k f s i h ∙ rw (covers-more a k i (λ l e. z e))))
+      is-patch a (k + 1) f s t e
+      (λ j l h. case (eqb j k)
+      (λ q. rw (eqb-true j k q) here)
+      (λ q. let d = eqb-false j k q in else-where (a + j) h (λ z. d (omega arith)) ∙ patch-in a k f s j (omega arith) h))
+      (λ i h no. else-where i h (λ z. no (omega arith) (omega arith)) ∙ patch-else a k f s i h (λ u v. no u (omega arith)))
 
   pub patch-more : (k : ℕ) → a + k < length s → set (patch a k f s) (a + k) (f k) ≡ patch a (k + 1) f s
   patch-more k h =
@@ -90,12 +106,42 @@ module _ (a : ℕ) (f : ℕ → ℕ) (s : List ℕ) where
   pub patch-skip : (k : ℕ) → a + k < length s → f k ≡ at s (a + k) → patch a k f s ≡ patch a (k + 1) f s
   patch-skip k h e = patch-grow (patch a k f s) k (patch-length a k f s) (patch-next k h ∙ sym e) (λ i l ne. refl)
 
--- at the front
-pub front-in : (n : ℕ) (f : ℕ → ℕ) (s : List ℕ) (i : ℕ) → i < n → i < length s → at (patch 0 n f s) i ≡ f i
-front-in n f s i h k = let e : 0 + i ≡ i = omega arith in rw e at (patch-in 0 n f s i h (omega arith))
+-- ---- two runs
 
-pub front-more : (f : ℕ → ℕ) (s : List ℕ) (k : ℕ) → k < length s → set (patch 0 k f s) k (f k) ≡ patch 0 (k + 1) f s
-front-more f s k h = let e : 0 + k ≡ k = omega arith in rw e at (patch-more 0 f s k (omega arith))
+-- a run that begins where the run before it ends
+pub patch-join : (a n b m : ℕ) (f g h : ℕ → ℕ) (s : List ℕ) → b ≡ a + n
+    → ((j : ℕ) → j < n → f j ≡ h j) → ((j : ℕ) → j < m → g j ≡ h (n + j)) → patch b m g (patch a n f s) ≡ patch a (n + m) h s
+patch-join a n b m f g h s e p q =
+    let t = patch a n f s in
+    let len = patch-length a n f s in
+    is-patch a (n + m) h s (patch b m g t) (patch-length b m g t ∙ len)
+    (λ j l k. case (ltb j n)
+    (λ x. let y = ltb-true j n x in patch-else b m g t (a + j) (omega arith) (λ u v. omega arith) ∙ patch-in a n f s j y k ∙ p j y)
+    (λ x. let y = ltb-false j n x in let z : b + (j - n) ≡ a + j = omega arith in let w : n + (j - n) ≡ j = omega arith in
+    rw z at (patch-in b m g t (j - n) (omega arith) (omega arith)) ∙ rw w at (q (j - n) (omega arith))))
+    (λ i l k. patch-else b m g t i (omega arith) (λ u v. k (omega arith) (omega arith)) ∙ patch-else a n f s i l (λ u v. k u (omega arith)))
+
+-- n places from `to` on stand for the numbers from a on: those of them replaced that stand for one of the m numbers from b on
+pub patch-overlap : (to a n b m first many : ℕ) (f g : ℕ → ℕ) (s : List ℕ) → first ≡ max a b → many ≡ min (a + n) (b + m) - max a b
+    → ((j : ℕ) → j < many → f j ≡ g (first + j))
+    → patch (to + (first - a)) many f s ≡ patch to n (λ j. if covers b m (a + j) then g (a + j) else at s (to + j)) s
+patch-overlap to a n b m first many f g s e k same =
+    is-patch to n (λ j. if covers b m (a + j) then g (a + j) else at s (to + j)) s (patch p many f s) (patch-length p many f s)
+    (λ j l h. case (covers b m (a + j))
+    (λ t. let r = covers-true b m (a + j) t in
+    let z : p + (a + j - first) ≡ to + j = omega arith in let w : first + (a + j - first) ≡ a + j = omega arith in
+    rw t (rw z at (patch-in p many f s (a + j - first) (omega arith) (omega arith)) ∙ rw w at (same (a + j - first) (omega arith))))
+    (λ t. rw t (patch-else p many f s (to + j) h (λ u v. not-both (covers b m (a + j)) (covers-in b m (a + j) (omega arith) (omega arith)) t))))
+    (λ i l h. patch-else p many f s i l (λ u v. h (omega arith) (omega arith)))
+  where
+    p : ℕ
+    p = to + (first - a)
+
+-- there are none
+pub patch-apart : (to a n b m : ℕ) (g : ℕ → ℕ) (s : List ℕ) → min (a + n) (b + m) ≤ max a b
+    → s ≡ patch to n (λ j. if covers b m (a + j) then g (a + j) else at s (to + j)) s
+patch-apart to a n b m g s h =
+    patch-none (to + (max a b - a)) g s ∙ patch-overlap to a n b m (max a b) 0 g g s refl (omega arith) (λ j l. absurd (omega arith))
 
 -- ---- parts
 

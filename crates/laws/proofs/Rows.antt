@@ -11,7 +11,7 @@ use lib.Dec.{ltb, eqb}
 use borrow.Author.Tests.{not-true, eqb-true, eqb-false, eq-eqb, ne-eqb, ltb-true}
 use native.Mathlib.Nat.{le-refl}
 use native.Mathlib.Omega.{arith}
-use Rattle.laws.specs.Tests.{Row, firstOf, noneOf}
+use Rattle.laws.specs.Tests.{if_then_else_, Row, firstOf, noneOf}
 use Rattle.laws.proofs.Tests.{same-test, and-left, and-right}
 
 -- the numbers of the rows are above k, and rise
@@ -65,6 +65,12 @@ pub first-taken : (rs : List Row) → named rs ≡ true → eqb (firstOf rs) 0 �
 first-taken rs e =
     let r = first-none rs e in
     same-test (eqb (firstOf rs) 0) (noneOf rs) (λ t. r .0 (eqb-true (firstOf rs) 0 t)) (λ t. eq-eqb (firstOf rs) 0 (r .1 t))
+
+-- rows after rows
+pub first-append : (xs ys : List Row) → named xs ≡ true → firstOf (xs ++ ys) ≡ (if eqb (firstOf xs) 0 then firstOf ys else firstOf xs)
+first-append [] ys e = refl
+first-append ((n, true) ∷ xs) ys e = rw (not-true (eqb n 0) (and-left (not (eqb n 0)) (named xs) e))
+first-append ((n, false) ∷ xs) ys e = first-append xs ys (and-right (not (eqb n 0)) (named xs) e)
 
 rising-above : (k : ℕ) (rs : List Row) → rising k rs ≡ true → (r : Row) → List·Memᴰ r rs → k < r .0
 rising-above k (s ∷ rs) e r m =

@@ -6,19 +6,25 @@ use Prim.Native.Nat.{ℕ, _+_, _*_, _%_, _≤_, _<_}
 use native.Mathlib.Nat.{zero-add, add-mod, suc-mul}
 use native.Mathlib.Numerals.{add-one}
 use native.Mathlib.Omega.{arith}
-use lib.ListN.{length, take}
-use lib.Seq.{take-suc}
-use Rattle.laws.specs.Lists.{at, sum}
+use lib.ListN.{length, drop, length-drop}
+use lib.Seq.{take-suc, getD-drop}
+use Rattle.laws.specs.Lists.{at, part, sum}
 
 pub sum-append : (a b : List ℕ) → sum (a ++ b) ≡ sum a + sum b
 unfolding sum
 sum-append [] b = sym (zero-add (sum b))
 sum-append (x ∷ xs) b = omega (arith, sum-append xs b)
 
--- one element more
-pub sum-next : (s : List ℕ) (i : ℕ) → i < length s → sum (take (i + 1) s) ≡ sum (take i s) + at s i
+-- one element more at the end
+pub sum-last : (l : List ℕ) (x : ℕ) → sum (l ++ (x ∷ [])) ≡ sum l + x
 unfolding sum
-sum-next s i h = rw (add-one, take-suc s i 0, sum-append) (omega arith)
+sum-last l x = rw sum-append (omega arith)
+
+-- one element more of a list
+pub sum-next : (a i : ℕ) (s : List ℕ) → a + i < length s → sum (part a (i + 1) s) ≡ sum (part a i s) + at s (a + i)
+sum-next a i s h =
+    let k : i < length (drop a s) = simp length-drop (omega arith) in
+    rw (add-one, take-suc (drop a s) i 0, sum-last, getD-drop)
 
 -- a sum modulo m, part by part
 pub sum-append-mod : (m : ℕ) (a b : List ℕ) → sum (a ++ b) % m ≡ (sum a % m + sum b % m) % m

@@ -1,10 +1,10 @@
 -- Laws of choices by a test, of `and` and `or`, and of numbers against a run.
 -- Assumes nothing.
 use mathlib.Core.Path.{_≡_, refl, sym, _∙_}
-use mathlib.Core.Bool.{Bool, true, false, true≢false, _&&_, _||_, and-false, Bool·beq}
-use Prim.Native.Nat.{ℕ, _+_, _≤_, _<_}
-use lib.Dec.{leb, ltb}
-use borrow.Author.Tests.{lt-leb, le-leb, leb-true, lt-ltb, le-ltb, ltb-true}
+use mathlib.Core.Bool.{Bool, true, false, not, true≢false, _&&_, _||_, and-false, Bool·beq}
+use Prim.Native.Nat.{ℕ, _+_, _-_, _≤_, _<_}
+use lib.Dec.{leb, ltb, eqb}
+use borrow.Author.Tests.{eqb-true, eqb-false, lt-leb, le-leb, leb-true, lt-ltb, le-ltb, ltb-true, ltb-false}
 use native.Mathlib.Omega.{arith}
 use Rattle.laws.specs.Tests.{if_then_else_, one, covers}
 
@@ -19,6 +19,11 @@ case false f g = g refl
 pub if-both {ℓ} : {A : Type ℓ} (b : Bool) {x y z : A} → x ≡ z → y ≡ z → (if b then x else y) ≡ z
 if-both true p q = p
 if-both false p q = q
+
+-- the branches change places
+pub if-not {ℓ} : {A : Type ℓ} (b : Bool) (x y : A) → (if not b then x else y) ≡ (if b then y else x)
+if-not true x y = refl
+if-not false x y = refl
 
 -- what holds of both branches holds of the whole
 pub if-elim {ℓ κ} : {A : Type ℓ} (P : A → Type κ) (b : Bool) {x y : A} → (b ≡ true → P x) → (b ≡ false → P y) → P (if b then x else y)
@@ -69,11 +74,6 @@ pub or-right : (t u : Bool) → (t || u) ≡ false → u ≡ false
 or-right true u h = cc
 or-right false u h = h
 
--- two conjunctions are equal whose second parts are wherever the first part holds
-pub and-cong : (t : Bool) {u v : Bool} → (t ≡ true → u ≡ v) → (t && u) ≡ (t && v)
-and-cong true e = e refl
-and-cong false e = refl
-
 -- ---- a number against a run
 
 pub covers-in : (a n i : ℕ) → a ≤ i → i < a + n → covers a n i ≡ true
@@ -88,13 +88,17 @@ covers-above a n i h = rw (le-ltb i (a + n) h) (and-false (leb a i))
 pub covers-true : (a n i : ℕ) → covers a n i ≡ true → (a ≤ i) × (i < a + n)
 covers-true a n i e = (leb-true a i (and-left (leb a i) (ltb i (a + n)) e), ltb-true i (a + n) (and-right (leb a i) (ltb i (a + n)) e))
 
--- one more number is covered
-pub covers-more : (a n i : ℕ) → (a ≤ i → i ≡ a + n → ⊥) → covers a n i ≡ covers a (n + 1) i
-covers-more a n i ne = and-cong (leb a i) (λ l. let k = leb-true a i l in let d = ne k in
-    same-test (ltb i (a + n)) (ltb i (a + (n + 1))) (λ x. up (ltb-true i (a + n) x)) (λ x. down d (ltb-true i (a + (n + 1)) x)))
-  where
-    up : i < a + n → ltb i (a + (n + 1)) ≡ true
-    up x = lt-ltb i (a + (n + 1)) (omega arith)
+pub covers-none : (a n i : ℕ) → (a ≤ i → i < a + n → ⊥) → covers a n i ≡ false
+covers-none a n i h = case (covers a n i) (λ t. let r = covers-true a n i t in absurd (h (r .0) (r .1))) (λ t. t)
 
-    down : (i ≡ a + n → ⊥) → i < a + (n + 1) → ltb i (a + n) ≡ true
-    down d x = lt-ltb i (a + n) (omega arith)
+-- a run of one number
+pub covers-one : (a i : ℕ) → covers a 1 i ≡ eqb i a
+covers-one a i = case (eqb i a)
+    (λ t. let e = eqb-true i a t in rw t (covers-in a 1 i (omega arith) (omega arith)))
+    (λ t. let d = eqb-false i a t in rw t (covers-none a 1 i (λ l u. d (omega arith))))
+
+-- m - n is below a where m is below a + n
+pub sub-ltb : (m a n : ℕ) → n ≤ m → ltb (m - n) a ≡ ltb m (a + n)
+sub-ltb m a n h = case (ltb m (a + n))
+    (λ t. let l = ltb-true m (a + n) t in rw t (lt-ltb (m - n) a (omega arith)))
+    (λ t. let l = ltb-false m (a + n) t in rw t (le-ltb (m - n) a (omega arith)))

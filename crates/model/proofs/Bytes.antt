@@ -2,7 +2,7 @@
 -- Assumes nothing.
 use mathlib.Core.Path.{_≡_, refl, sym, ap, _∙_, fun-ext, subst}
 use mathlib.Core.List.{List}
-use Prim.Native.Nat.{ℕ, _+_, _-_, _<_}
+use Prim.Native.Nat.{ℕ, _+_, _-_, _≤_, _<_}
 use native.Mathlib.Omega.{arith}
 use lib.Dec.{ltb, eqb}
 use lib.ListN.{length}
@@ -21,7 +21,8 @@ use Rattle.model.proofs.Fits.{Fits, fits-of, fits-done}
 
 -- ---- bytes and states are the same thing
 
-base-fits : (p : Port) (k : ℕ) → k < recordSize → base p + k < stateSize
+-- the records stand behind the memory
+pub base-fits : (p : Port) (k : ℕ) → k < recordSize → (memorySize ≤ base p + k) × (base p + k < stateSize)
 base-fits operator k h = omega arith
 base-fits recorder k h = omega arith
 
@@ -71,7 +72,7 @@ state-bytes m t = λ z. record { mem = fun-ext memory z; own = fun-ext (λ p. fu
 
     record-of : (p : Port) (k : ℕ) → (if ltb k recordSize then at (bytesOf m) (base p + k) else 0) ≡ m .own p k
     record-of p k = case (ltb k recordSize)
-        (λ h. let l = ltb-true k recordSize h in rw h (bytes-at m (base p + k) (base-fits p k l) ∙ place-own m p k l))
+        (λ h. let l = ltb-true k recordSize h in rw h (bytes-at m (base p + k) (base-fits p k l .1) ∙ place-own m p k l))
         (λ h. rw h (sym (t .own-end p k (ltb-false k recordSize h))))
 
 pub memory-at : (s : List ℕ) (i : ℕ) → i < memorySize → stateOf s .mem i ≡ at s i
@@ -93,6 +94,15 @@ place-state s i h = go i (spot i h)
 -- bytes that agree with a state at each place are the state's
 pub bytes-by-place : (m : State) (s : List ℕ) → length s ≡ stateSize → ((i : ℕ) → i < stateSize → at s i ≡ place m i) → s ≡ bytesOf m
 bytes-by-place m s e f = ext-getD 0 s (bytesOf m) (e ∙ sym (bytes-length m)) (λ i l. let h = rw e at l in f i h ∙ sym (bytes-at m i h))
+
+-- bytes whose memory and records are a state's are the state's
+pub bytes-by-part : (m : State) (s : List ℕ) → length s ≡ stateSize → ((i : ℕ) → i < memorySize → at s i ≡ m .mem i)
+    → ((p : Port) (k : ℕ) → k < recordSize → at s (base p + k) ≡ m .own p k) → s ≡ bytesOf m
+bytes-by-part m s e memory records = bytes-by-place m s e (λ i h. go i (spot i h))
+  where
+    go : (i : ℕ) → Spot i → at s i ≡ place m i
+    go i (inMemory j l) = memory j l ∙ sym (place-memory m j l)
+    go i (inRecord p k l) = records p k l ∙ sym (place-own m p k l)
 
 -- the bytes of a list's state are the list
 pub bytes-state : (s : List ℕ) → length s ≡ stateSize → bytesOf (stateOf s) ≡ s

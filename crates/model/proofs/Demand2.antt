@@ -14,7 +14,7 @@ use Rattle.laws.specs.Bits.{bit}
 use Rattle.laws.specs.Lists.{at}
 use Rattle.laws.proofs.Tests.{not-both, and-left, and-right, covers-true}
 use Rattle.laws.proofs.Rows.{first-taken}
-use Rattle.laws.proofs.Lists.{front-in}
+use Rattle.laws.proofs.Fronts.{front-in}
 use Rattle.model.specs.Ports.{Port, nobody, caller, Places, State, Call, reset, sample, read, write}
 use Rattle.model.specs.Interrupt.{count, stands}
 use Rattle.model.specs.Map.{statusAt, seat, stateSize, flags, paged, pageAt, sound, supported}
@@ -37,7 +37,7 @@ use Rattle.model.proofs.Begun.{taken-size, taken-state, begun-size, beg
 -- ---- what an accepted read shows
 
 -- the output memory is long enough
-read-room : (m : State) (n a k : ℕ) (out : List ℕ) → accepted m (read n a k out) ≡ true → k ≤ length out
+pub read-room : (m : State) (n a k : ℕ) (out : List ℕ) → accepted m (read n a k out) ≡ true → k ≤ length out
 unfolding refusal rows
 read-room m n a k out e =
     let z : noneOf (rows m (read n a k out)) ≡ true = sym (first-taken (rows m (read n a k out)) refl) ∙ e in

@@ -24,10 +24,14 @@ use Rattle.model.proofs.Begun.{begun-size, begun-good}
 use Rattle.model.proofs.Sound.{Good}
 
 -- two histories that go on alike
+pub only-next : (p : Port) (h k : Calls) (c : Call) → only p h ≡ only p k → only p (h ▷ c) ≡ only p (k ▷ c)
+unfolding only
+only-next p h k c q = rw q
+
 only-on : (p : Port) (h k : Calls) → only p h ≡ only p k → (cs : List Call) → only p (h ▷▷ cs) ≡ only p (k ▷▷ cs)
-unfolding _▷▷_ only
+unfolding _▷▷_
 only-on p h k q [] = q
-only-on p h k q (c ∷ cs) = only-on p (h ▷ c) (k ▷ c) (rw q) cs
+only-on p h k q (c ∷ cs) = only-on p (h ▷ c) (k ▷ c) (only-next p h k c q) cs
 
 -- what a port is told on the bytes is what it is told in the model
 tells-state : (p : Port) (s : List ℕ) → length s ≡ stateSize → (h : Calls) → tells p s h ≡ tellsOn p (stateOf s) h

@@ -6,9 +6,8 @@ use mathlib.Core.Logic.{_↔_}
 use mathlib.Core.Bool.{Bool, true, not, _&&_}
 use mathlib.Core.List.{List, map, List·Memᴰ, Memᴰ·cast, List·Nodup, Nodup·sublist}
 use Prim.Native.Nat.{ℕ, zero, suc, _+_, _*_, _≤_, _<_, min}
-use native.Mathlib.Nat.{lt-of-le-of-lt}
 use native.Mathlib.Omega.{arith}
-use lib.Bits.{bitAnd, bitXor, differ, and-le-l, xor-lt}
+use lib.Bits.{bitAnd, bitXor, differ}
 use lib.Count.{ones}
 use lib.Dec.{eqb}
 use lib.ListN.{length}
@@ -17,7 +16,7 @@ use Rattle.laws.specs.Tests.{one}
 use Rattle.laws.specs.Bits.{bit, has}
 use Rattle.laws.specs.Lists.{sum}
 use Rattle.laws.proofs.Tests.{one-le, one-none, and-left, and-right}
-use Rattle.laws.proofs.Bits.{bit-small, has-bit, bit-has, lacks-bit, bit-lacks, bit-and, bit-xor, bit-beyond}
+use Rattle.laws.proofs.Bits.{bit-small, has-bit, bit-has, lacks-bit, bit-lacks, bit-and, bit-xor, without-lt, bit-beyond}
 use Rattle.laws.proofs.Picks.{counted-within, within-counted, picked, picked-length, picked-passes, passes-picked, picked-sublist, rises-once, some-member, member-some, crossed, crossed-both, both-crossed, crossed-sum}
 use Rattle.laws.proofs.Ones.{ones-bits}
 use Rattle.laws.proofs.Sums.{sum-same, sum-le}
@@ -125,7 +124,7 @@ status-bits mem o =
 -- "Ones counted in each flag byte with its masked bits taken away" are the bits of it that are let through
 pub ones-through : (f m : ℕ) → f < 256 → ones (bitXor f (bitAnd f m)) ≡ sum (map (λ j. one (has j f && not (has j m))) bits)
 ones-through f m h =
-    ones-bits 8 (bitXor f (bitAnd f m)) (xor-lt 8 f (bitAnd f m) h (lt-of-le-of-lt (and-le-l f m) h))
+    ones-bits 8 (bitXor f (bitAnd f m)) (without-lt 8 f m h)
     ∙ sum-same (λ j. bit j (bitXor f (bitAnd f m))) (λ j. one (has j f && not (has j m))) bits
     (λ j i. bit-xor j f (bitAnd f m) ∙ ap (differ (bit j f)) (bit-and j f m) ∙ digit (bit j f) (bit j m) (bit-small j f) (bit-small j m))
   where

@@ -18,3 +18,5 @@ pub mod Begun
 pub mod Demand1
 pub mod Demand2
 pub mod Demand3
+pub mod Contracts
+pub mod Chain

@@ -1,19 +1,19 @@
 -- Both records are sound after an accepted reset, and every call keeps them so.
 -- Assumes nothing.
 use mathlib.Core.Path.{_≡_, refl, ap, _∙_}
-use Prim.Native.Nat.{ℕ, suc, _%_}
-use mathlib.Core.Bool.{Bool, true, false}
+use Prim.Native.Nat.{ℕ, suc, _%_, _<_}
+use mathlib.Core.Bool.{Bool, true, false, false≢true, not}
 use mathlib.Core.List.{List, [], _∷_}
 use lib.Bits.{or-zero-r}
-use lib.Dec.{eqb}
-use borrow.Author.Tests.{eqb-true}
+use lib.Dec.{ltb, eqb}
+use borrow.Author.Tests.{eqb-true, ne-eqb, ltb-true, ltb-false}
 use native.Mathlib.Omega.{arith}
 use Rattle.laws.specs.Tests.{if_then_else_, covers}
-use Rattle.laws.specs.Bits.{splice}
+use Rattle.laws.specs.Bits.{has, splice}
 use Rattle.laws.proofs.Tests.{case, and-left, and-right, and-both, if-both}
 use Rattle.laws.proofs.Bits.{or-high, splice-low}
 use Rattle.model.specs.Ports.{Port, Places, State, Call, reset, sample, read, write, caller, give}
-use Rattle.model.specs.Map.{temperatureFlags, supplyFlags, vendorFlags, temperatureMask, supplyMask, flagOf, lowMaskOf, pageAt, supported, tidy, sound, Seat, flag, mine, common, status, blank, seat}
+use Rattle.model.specs.Map.{statusAt, temperatureFlags, supplyFlags, vendorFlags, temperatureMask, supplyMask, flagOf, lowMaskOf, pageAt, supported, tidy, sound, Seat, flag, mine, common, status, blank, seat}
 use Rattle.model.specs.Refusals.{accepted}
 use Rattle.model.specs.Samples.{conditions, conds, raised}
 use Rattle.model.specs.Reading.{cleared}
@@ -21,6 +21,21 @@ use Rattle.model.specs.Writing.{ownClass, written, entered, store, puts}
 use Rattle.model.specs.Calls.{done, step, Calls, start, _▷_, run}
 use Rattle.model.proofs.Ports.{give-elim}
 use Rattle.model.proofs.Lasting.{supported-lasts, store-lasts, sample-lasts}
+
+-- ---- what soundness is
+
+-- a supported page is one of the four
+supported-small : (mem : Places) (g : ℕ) → supported mem g ≡ true → g < 4
+unfolding supported
+supported-small mem g e = case (ltb g 4) (λ t. ltb-true g 4 t) (λ t.
+    let l = ltb-false g 4 t in
+    absurd (false≢true (and-right (not (has 2 (mem statusAt))) false
+    (rw (ne-eqb g 0 (λ z. omega arith), ne-eqb g 1 (λ z. omega arith), ne-eqb g 2 (λ z. omega arith), ne-eqb g 3 (λ z. omega arith)) at e))))
+
+-- a sound record has one of the four pages
+pub sound-page : (mem o : Places) → sound mem o ≡ true → o pageAt < 4
+unfolding sound
+sound-page mem o e = supported-small mem (o pageAt) (search and-left)
 
 -- both records are sound
 pub record Good (m : State) : Type 0 where

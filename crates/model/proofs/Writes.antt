@@ -3,7 +3,7 @@
 -- Assumes nothing.
 use mathlib.Core.Path.{_≡_, refl, sym, _∙_}
 use mathlib.Core.Logic.{_≢_}
-use mathlib.Core.Bool.{Bool, true, false, false≢true, not, _&&_}
+use mathlib.Core.Bool.{Bool, true, false, _&&_}
 use mathlib.Core.Option.{Option, some}
 use mathlib.Core.List.{List, [], _∷_}
 use Prim.Native.Nat.{ℕ, zero, suc, _+_, _-_, _*_, _≤_, _<_}
@@ -12,7 +12,7 @@ use lib.Dec.{ltb, eqb}
 use lib.ListN.{length}
 use borrow.Author.Tests.{eqb-true, eq-eqb, ne-eqb, ltb-true, ltb-false, le-leb, lt-leb, not-true, not-false}
 use Rattle.laws.specs.Tests.{if_then_else_, within}
-use Rattle.laws.specs.Bits.{bit, has}
+use Rattle.laws.specs.Bits.{bit}
 use Rattle.laws.specs.Lists.{at}
 use Rattle.laws.proofs.Tests.{case, if-elim, and-left, and-right, or-left, covers-true}
 use Rattle.laws.proofs.Finite.{always, always-at}
@@ -26,6 +26,7 @@ use Rattle.model.specs.Bytes.{place}
 use Rattle.model.specs.Demands.{placeOf}
 use Rattle.model.proofs.Ports.{give-elim, give-own, written-same}
 use Rattle.model.proofs.Lasting.{store-lasts, supported-lasts}
+use Rattle.model.proofs.Sound.{sound-page}
 use Rattle.model.proofs.Bytes.{place-memory, place-own, Spot, inMemory, inRecord, spot}
 
 -- ---- where an address leads
@@ -182,20 +183,13 @@ page-unsupported mem old v e = rw e
 
 -- ---- an accepted write
 
-pub supported-small : (mem : Places) (g : ℕ) → supported mem g ≡ true → g < 4
-unfolding supported
-supported-small mem g e = case (ltb g 4) (λ t. ltb-true g 4 t) (λ t.
-    let l = ltb-false g 4 t in
-    absurd (false≢true (and-right (not (has 2 (mem statusAt))) false
-    (rw (ne-eqb g 0 (λ z. omega arith), ne-eqb g 1 (λ z. omega arith), ne-eqb g 2 (λ z. omega arith), ne-eqb g 3 (λ z. omega arith)) at e))))
-
 -- its addresses end at 255, its page is one of the four, its port is one of the two, and that port's record is sound
 pub accepted-range : (m : State) (n a : ℕ) (vs : List ℕ) → accepted m (write n a vs) ≡ true
     → (a + length vs ≤ 256) × (m .own (caller n) pageAt < 4) × (nobody n ≡ false) × (sound (m .mem) (m .own (caller n)) ≡ true)
-unfolding refusal rows sound
+unfolding refusal rows
 accepted-range m n a vs e =
     let r = first-none (rows m (write n a vs)) refl .0 (eqb-true (refusal m (write n a vs)) 0 e) in
     let inside : beyond a (length vs) ≡ false = search (and-left, and-right, not-true, or-left) in
     let port : nobody n ≡ false = search (and-left, not-true) in
     let whole : sound (m .mem) (m .own (caller n)) ≡ true = search (and-left, and-right, not-true, not-false) in
-    (ltb-false 256 (a + length vs) inside, supported-small (m .mem) (m .own (caller n) pageAt) (search and-left), port, whole)
+    (ltb-false 256 (a + length vs) inside, sound-page (m .mem) (m .own (caller n)) whole, port, whole)

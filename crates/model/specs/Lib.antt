@@ -10,3 +10,4 @@ pub mod Readout
 pub mod Calls
 pub mod Bytes
 pub mod Demands
+pub mod Contracts

@@ -1,0 +1,165 @@
+// A sample decoded, the one alarm rule, and the flag bytes of a sample.
+// Proved: the twelve bytes are those of the definition `conds` (document 01, "Samples and conditions").
+ghost use mathlib.Core.Path.{_≡_};
+ghost use Prim.Native.Nat.{_+_, _*_, _<_, _≤_};
+ghost use lib.IntN.{pos};
+ghost use lib.Signed.{ltZ};
+ghost use lib.ListN.{length};
+ghost use Rattle.laws.specs.Tests.{if_then_else_, one};
+ghost use Rattle.laws.specs.Lists.{at, table};
+ghost use Rattle.model.specs.Map.{stateSize, flags};
+ghost use Rattle.model.specs.Samples.{word, signed, fourOf, offered, txPower, sampleSize, conds};
+ghost use Rattle.model.specs.Bytes.{memoryOf};
+ghost use Rattle.alarms.specs.Decoded.{row, rows, cell};
+
+// ---- numbers
+
+fn join(high: u8, low: u8) -> u16
+    ensures { λ r. ⌜ r ≡ high * 256 + low ⌝ }
+{
+    (high as u16) * 256 + low as u16
+}
+
+// The number of two bytes at `i`, high byte first.
+pub fn number(s: &[u8], i: usize) -> u16
+    requires { ⌜ i + 1 < length (now s) ⌝ }
+    ensures { λ r. ⌜ r ≡ word (at (now (s .entry))) i ⌝ }
+{
+    join(s[i], s[i + 1])
+}
+
+// Four numbers from `i` on: a quantity's channels, or its thresholds.
+fn row_at(s: &[u8], i: usize) -> [u16; 4]
+    requires { ⌜ i + 7 < length (now s) ⌝ }
+    ensures { λ r. ⌜ r ≡ row (now (s .entry)) i ⌝ }
+{
+    [
+        number(s, i),
+        number(s, i + 2),
+        number(s, i + 4),
+        number(s, i + 6),
+    ]
+}
+
+// Three rows of four from `i` on: Rx power, Tx bias, Tx power.
+fn rows_at(s: &[u8], i: usize) -> [[u16; 4]; 3]
+    requires { ⌜ i + 23 < length (now s) ⌝ }
+    ensures { λ r. ⌜ r ≡ rows (now (s .entry)) i ⌝ }
+{
+    [row_at(s, i), row_at(s, i + 8), row_at(s, i + 16)]
+}
+
+// ---- the alarm rule
+
+fn below(a: u16, b: u16) -> u8
+    ensures { λ r. ⌜ (r ≡ one (ltZ (pos a) (pos b))) × (r ≤ 1) ⌝ }
+{
+    if a < b { 1 } else { 0 }
+}
+
+// The four conditions of a number against its thresholds: high alarm, low alarm, high warning, low warning, from bit 3 down.
+fn four_of(n: u16, t: [u16; 4]) -> u8
+    ensures { λ r. ⌜ (r ≡ fourOf (pos n) (λ w. pos (at t w))) × (r ≤ 15) ⌝ }
+{
+    8 * below(t[0], n) + 4 * below(n, t[1]) + 2 * below(t[2], n) + below(n, t[3])
+}
+
+// One rule for four channels by three quantities: channel `c` of quantity `q`.
+fn rule(x: [[u16; 4]; 3], t: [[u16; 4]; 3], q: usize, c: usize) -> u8
+    requires { ⌜ (q < 3) × (c < 4) ⌝ }
+    ensures { λ r. ⌜ (r ≡ fourOf (pos (cell x q c)) (λ w. pos (cell t q w))) × (r ≤ 15) ⌝ }
+{
+    let limits = t[q];
+    four_of(x[q][c], limits)
+}
+
+// Flag byte `j` of a quantity: an odd channel in bits 7 to 4, the even one after it in bits 3 to 0.
+fn flag_byte(x: [[u16; 4]; 3], t: [[u16; 4]; 3], q: usize, j: usize) -> u8
+    requires { ⌜ (q < 3) × (j < 2) ⌝ }
+    ensures { λ r. ⌜ r ≡ 16 * fourOf (pos (cell x q (2 * j))) (λ w. pos (cell t q w)) + fourOf (pos (cell x q (2 * j + 1))) (λ w. pos (cell t q w)) ⌝ }
+{
+    16 * rule(x, t, q, 2 * j) + rule(x, t, q, 2 * j + 1)
+}
+
+// Sixteen bits as a signed number.
+fn signed_of(n: u16) -> i16
+    ensures { λ r. ⌜ r ≡ signed n ⌝ }
+{
+    if n < 32768 {
+        n as i16
+    } else {
+        !((65535 - n) as i16)
+    }
+}
+
+fn below_signed(a: u16, b: u16) -> u8
+    ensures { λ r. ⌜ (r ≡ one (ltZ (signed a) (signed b))) × (r ≤ 1) ⌝ }
+{
+    let x = signed_of(a);
+    let y = signed_of(b);
+    if x < y { 1 } else { 0 }
+}
+
+// The same four conditions, compared signed: temperature.
+fn signed_four_of(n: u16, t: [u16; 4]) -> u8
+    ensures { λ r. ⌜ (r ≡ fourOf (signed n) (λ w. signed (at t w))) × (r ≤ 15) ⌝ }
+{
+    8 * below_signed(t[0], n)
+        + 4 * below_signed(n, t[1])
+        + 2 * below_signed(t[2], n)
+        + below_signed(n, t[3])
+}
+
+// ---- the flag bytes of a sample
+
+fn temperature(state: &[u8], x: &[u8]) -> u8
+    requires { ⌜ (length (now state) ≡ stateSize) × (length (now x) ≡ sampleSize) ⌝ }
+    ensures { λ r. ⌜ r ≡ conds (memoryOf (now (state .entry))) (now (x .entry)) 6 ⌝ }
+{
+    16 * signed_four_of(number(x, 3), row_at(state, 512)) // page 03h 128
+}
+
+fn supply(state: &[u8], x: &[u8]) -> u8
+    requires { ⌜ (length (now state) ≡ stateSize) × (length (now x) ≡ sampleSize) ⌝ }
+    ensures { λ r. ⌜ r ≡ conds (memoryOf (now (state .entry))) (now (x .entry)) 7 ⌝ }
+{
+    16 * four_of(number(x, 5), row_at(state, 528)) // page 03h 144
+}
+
+// Whether bit 2 of page 00h byte 220 offers Tx power.
+pub fn offers_tx(state: &[u8]) -> bool
+    requires { ⌜ length (now state) ≡ stateSize ⌝ }
+    ensures { λ r. ⌜ r ≡ offered (memoryOf (now (state .entry))) txPower ⌝ }
+{
+    state[220] / 4 % 2 == 1
+}
+
+fn only_if(t: bool, v: u8) -> u8
+    ensures { λ r. ⌜ r ≡ (if t then v else 0) ⌝ }
+{
+    if t { v } else { 0 }
+}
+
+// The conditions of the twelve flag bytes.
+pub fn conditions(state: &[u8], x: &[u8]) -> [u8; 12]
+    requires { ⌜ (length (now state) ≡ stateSize) × (length (now x) ≡ sampleSize) ⌝ }
+    ensures { λ r. ⌜ r ≡ table (flags .many) (λ k. conds (memoryOf (now (state .entry))) (now (x .entry)) (flags .first + k)) ⌝ }
+{
+    let v = rows_at(x, 7); // after three status bytes, temperature and supply
+    let t = rows_at(state, 560); // page 03h 176
+    let tx = offers_tx(state);
+    [
+        x[0],
+        x[1],
+        x[2],
+        temperature(state, x),
+        supply(state, x),
+        0,
+        flag_byte(v, t, 0, 0),
+        flag_byte(v, t, 0, 1),
+        flag_byte(v, t, 1, 0),
+        flag_byte(v, t, 1, 1),
+        only_if(tx, flag_byte(v, t, 2, 0)),
+        only_if(tx, flag_byte(v, t, 2, 1)),
+    ]
+}

@@ -1,0 +1,58 @@
+-- Laws of the front of a list: its first n places replaced, once and again.
+-- Assumes nothing.
+use mathlib.Core.Path.{_≡_, refl, ap, _∙_}
+use mathlib.Core.List.{List}
+use Prim.Native.Nat.{ℕ, _+_, _≤_, _<_}
+use native.Mathlib.Omega.{arith}
+use lib.Dec.{ltb, eqb}
+use lib.ListN.{length, set, length-set}
+use lib.Seq.{getD-set-other}
+use borrow.Author.Tests.{lt-ltb, le-ltb}
+use Rattle.laws.specs.Tests.{if_then_else_}
+use Rattle.laws.specs.Lists.{at, patch}
+use Rattle.laws.proofs.Lists.{patch-length, patch-in, patch-else, is-patch, at-set}
+
+pub front-in : (n : ℕ) (f : ℕ → ℕ) (s : List ℕ) (i : ℕ) → i < n → i < length s → at (patch 0 n f s) i ≡ f i
+front-in n f s i h k = let e : 0 + i ≡ i = omega arith in rw e at (patch-in 0 n f s i h (omega arith))
+
+-- a list is this one if, place by place, it has f below n and from there on what was there
+pub is-front : (n : ℕ) (f : ℕ → ℕ) (s l : List ℕ) → length l ≡ length s
+    → ((i : ℕ) → i < length s → at l i ≡ (if ltb i n then f i else at s i)) → l ≡ patch 0 n f s
+is-front n f s l e same =
+    is-patch 0 n f s l e
+    (λ j h k. let z : 0 + j ≡ j = omega arith in rw z (rw (lt-ltb j n h) at (same j (omega arith))))
+    (λ i h no. let d = no (omega arith) in rw (le-ltb i n (omega arith)) at (same i h))
+
+module _ (n : ℕ) (s : List ℕ) (room : n ≤ length s) where
+  -- what then stands there
+  front-of : (f : ℕ → ℕ) {o : List ℕ} → o ≡ patch 0 n f s → (j : ℕ) → j < n → at o j ≡ f j
+  front-of f {o} e j l = rw e (front-in n f s j l (omega arith))
+
+  -- by f, and then by g, which may look at the places
+  pub front-over : {f g h : ℕ → ℕ} {o t : List ℕ} → o ≡ patch 0 n f s → t ≡ patch 0 n g o → ((j : ℕ) → j < n → at o j ≡ f j → g j ≡ h j) → t ≡ patch 0 n h s
+  front-over {f} {g} {h} {o} {t} e d same =
+      let k : length o ≡ length s = ap length e ∙ patch-length 0 n f s in
+      is-patch 0 n h s t (ap length d ∙ patch-length 0 n g o ∙ k)
+      (λ j l m. let z : 0 + j ≡ j = omega arith in
+      let y : at t j ≡ g j = rw d (front-in n g o j l (omega arith)) in rw z (y ∙ same j l (front-of f e j l)))
+      (λ i l m. let x : at o i ≡ at s i = rw e (patch-else 0 n f s i l m) in
+      let y : at t i ≡ at o i = rw d (patch-else 0 n g o i (omega arith) m) in y ∙ x)
+
+  -- four times
+  pub front-four : {f₁ f₂ f₃ f₄ h : ℕ → ℕ} {o₁ o₂ o₃ t : List ℕ} → o₁ ≡ patch 0 n f₁ s → o₂ ≡ patch 0 n f₂ o₁ → o₃ ≡ patch 0 n f₃ o₂ → t ≡ patch 0 n f₄ o₃
+      → ((j : ℕ) → j < n → at o₁ j ≡ f₁ j → at o₂ j ≡ f₂ j → at o₃ j ≡ f₃ j → f₄ j ≡ h j) → t ≡ patch 0 n h s
+  front-four {f₁} {f₂} e₁ e₂ e₃ e₄ same =
+      let k₂ = front-over e₁ e₂ (λ j l x. refl) in
+      let k₃ = front-over k₂ e₃ (λ j l x. refl) in
+      front-over k₃ e₄ (λ j l x₃. same j l (front-of f₁ e₁ j l) (front-of f₂ k₂ j l) x₃)
+
+  -- by what stands there
+  pub front-self : s ≡ patch 0 n (λ j. at s j) s
+  front-self = is-patch 0 n (λ j. at s j) s s refl (λ j l m. let z : 0 + j ≡ j = omega arith in rw z) (λ i l m. refl)
+
+  -- one of them set
+  pub front-set : (k v : ℕ) → k < n → set s k v ≡ patch 0 n (λ j. if eqb j k then v else at s j) s
+  front-set k v h =
+      is-patch 0 n (λ j. if eqb j k then v else at s j) s (set s k v) (length-set s k v)
+      (λ j l m. let z : 0 + j ≡ j = omega arith in rw z (at-set s k v j (omega arith)))
+      (λ i l m. getD-set-other s k i v 0 (λ z. m (omega arith) (omega arith)))

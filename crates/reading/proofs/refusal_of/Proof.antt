@@ -1,0 +1,33 @@
+-- `reading::refusal_of` meets its contract.
+-- Assumes nothing.
+use borrow.Author.Tests.{ne-eqb}
+use borrow.Author.Needs.{needs}
+use lib.ListN.{length}
+use Rattle.model.specs.Refusals.{readRows, rows}
+use Rattle.model.specs.Bytes.{rowsOf, refusalOf}
+use Rattle.record.proofs.Laws.{port-first}
+use Rattle.reading.proofs.refusal_of.Statement.{statement}
+use Rattle.reading.proofs.refusal_of.Tie as tie
+
+port-refusal-requires : tie.Need-port-refusal-requires
+port-refusal-requires c κs = search needs
+
+returns : tie.Need-returns
+unfolding refusalOf rowsOf rows
+returns c =
+    let p = c .before in
+    let x = p .before .before .before .args in
+    port-first (x .state .now) (x .port) (readRows (x .address) (x .count) (length (x .out .now))) (p .port-refusal .ensures) (rw (ne-eqb _ 0 (c .if1 .taken)))
+
+run-refusal-requires : tie.Need-run-refusal-requires
+run-refusal-requires c κs = search needs
+
+returns-2 : tie.Need-returns-2
+unfolding refusalOf rowsOf rows
+returns-2 c =
+    let p = c .before .before in
+    let x = p .before .before .before .args in
+    port-first (x .state .now) (x .port) (readRows (x .address) (x .count) (length (x .out .now))) (p .port-refusal .ensures) (rw (c .before .if1 .left) (c .run-refusal .ensures))
+
+pub refusal-of-spec : {M : Type 1} → statement M
+refusal-of-spec = tie.close (tie.spec port-refusal-requires returns run-refusal-requires returns-2)

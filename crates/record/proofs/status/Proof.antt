@@ -1,0 +1,60 @@
+-- `record::status` meets its contract.
+-- Assumes nothing.
+use mathlib.Core.Path.{_≡_, _∙_}
+use mathlib.Core.Logic.{_≢_}
+use native.Mathlib.Omega.{arith}
+use borrow.Author.Tests.{eq-eqb, ne-eqb}
+use borrow.Author.Needs.{needs}
+use Rattle.model.specs.Interrupt.{count, stands}
+use Rattle.model.specs.Bytes.{recordOf}
+use Rattle.record.proofs.status.Statement.{statement}
+use Rattle.record.proofs.status.Tie as tie
+
+shared-slice-read-stored : tie.Need-shared-slice-read-stored
+shared-slice-read-stored c = search needs
+
+count-of-requires : tie.Need-count-of-requires
+count-of-requires c κs = search needs
+
+mul-result : tie.Need-mul-result
+mul-result c = search needs
+
+add-result : tie.Need-add-result
+add-result c = search needs
+
+add-result-2 : tie.Need-add-result-2
+add-result-2 c = search needs
+
+returns : tie.Need-returns
+unfolding stands
+returns c =
+    let x = c .before .before .before .before .args in
+    let e : count (recordOf (x .state .now) (x .base .0)) ≡ 0 = cc in
+    rw (eq-eqb _ _ e) (omega arith)
+
+mul-result-2 : tie.Need-mul-result-2
+mul-result-2 c = search needs
+
+add-result-3 : tie.Need-add-result-3
+add-result-3 c = search needs
+
+returns-2 : tie.Need-returns-2
+unfolding stands
+returns-2 c =
+    let x = c .before .before .before .before .args in
+    let e : count (recordOf (x .state .now) (x .base .0)) ≢ 0 = λ h. c .if1 .left (c .before .count-of .ensures ∙ h) in
+    rw (ne-eqb _ _ e) (omega arith)
+
+pub status-spec : {M : Type 1} → statement M
+status-spec =
+    tie.close
+    (tie.spec
+    shared-slice-read-stored
+    count-of-requires
+    mul-result
+    add-result
+    add-result-2
+    returns
+    mul-result-2
+    add-result-3
+    returns-2)
