@@ -1,7 +1,11 @@
--- The decoded form that the code works on: three rows of four numbers.
+-- The decoded form that the code works on: sixteen bits, signed or not, and three rows of four numbers.
 -- Assumes nothing.
-use Rattle.laws.specs.Words.{ℕ, _+_, List, [], _∷_, getD, at}
-use Rattle.model.specs.Samples.{word}
+use Rattle.laws.specs.Words.{ℕ, _+_, Bool, List, [], _∷_, getD, ℤ, pos, if_then_else_, at}
+use Rattle.model.specs.Samples.{word, signed}
+
+-- what sixteen bits stand for, signed or not
+abbrev pub numberAs : Bool → ℕ → ℤ
+numberAs s n = if s then signed n else pos n
 
 -- four numbers of two bytes from i on
 abbrev pub row : List ℕ → ℕ → List ℕ

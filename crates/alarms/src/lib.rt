@@ -10,7 +10,7 @@ ghost use Rattle.laws.specs.Lists.{at, table};
 ghost use Rattle.model.specs.Map.{stateSize, flags};
 ghost use Rattle.model.specs.Samples.{word, signed, fourOf, offered, txPower, sampleSize, conds};
 ghost use Rattle.model.specs.Bytes.{memoryOf};
-ghost use Rattle.alarms.specs.Decoded.{row, rows, cell};
+ghost use Rattle.alarms.specs.Decoded.{numberAs, row, rows, cell};
 
 // ---- numbers
 
@@ -51,34 +51,10 @@ fn rows_at(s: &[u8], i: usize) -> [[u16; 4]; 3]
 
 // ---- the alarm rule
 
-fn below(a: u16, b: u16) -> u8
+fn below_unsigned(a: u16, b: u16) -> u8
     ensures { λ r. ⌜ (r ≡ one (ltZ (pos a) (pos b))) × (r ≤ 1) ⌝ }
 {
     if a < b { 1 } else { 0 }
-}
-
-// The four conditions of a number against its thresholds: high alarm, low alarm, high warning, low warning, from bit 3 down.
-fn four_of(n: u16, t: [u16; 4]) -> u8
-    ensures { λ r. ⌜ (r ≡ fourOf (pos n) (λ w. pos (at t w))) × (r ≤ 15) ⌝ }
-{
-    8 * below(t[0], n) + 4 * below(n, t[1]) + 2 * below(t[2], n) + below(n, t[3])
-}
-
-// One rule for four channels by three quantities: channel `c` of quantity `q`.
-fn rule(x: [[u16; 4]; 3], t: [[u16; 4]; 3], q: usize, c: usize) -> u8
-    requires { ⌜ (q < 3) × (c < 4) ⌝ }
-    ensures { λ r. ⌜ (r ≡ fourOf (pos (cell x q c)) (λ w. pos (cell t q w))) × (r ≤ 15) ⌝ }
-{
-    let limits = t[q];
-    four_of(x[q][c], limits)
-}
-
-// Flag byte `j` of a quantity: an odd channel in bits 7 to 4, the even one after it in bits 3 to 0.
-fn flag_byte(x: [[u16; 4]; 3], t: [[u16; 4]; 3], q: usize, j: usize) -> u8
-    requires { ⌜ (q < 3) × (j < 2) ⌝ }
-    ensures { λ r. ⌜ r ≡ 16 * fourOf (pos (cell x q (2 * j))) (λ w. pos (cell t q w)) + fourOf (pos (cell x q (2 * j + 1))) (λ w. pos (cell t q w)) ⌝ }
-{
-    16 * rule(x, t, q, 2 * j) + rule(x, t, q, 2 * j + 1)
 }
 
 // Sixteen bits as a signed number.
@@ -100,14 +76,38 @@ fn below_signed(a: u16, b: u16) -> u8
     if x < y { 1 } else { 0 }
 }
 
-// The same four conditions, compared signed: temperature.
-fn signed_four_of(n: u16, t: [u16; 4]) -> u8
-    ensures { λ r. ⌜ (r ≡ fourOf (signed n) (λ w. signed (at t w))) × (r ≤ 15) ⌝ }
+// 1 where the number of `a` is below that of `b`, both signed or neither.
+fn below(s: bool, a: u16, b: u16) -> u8
+    ensures { λ r. ⌜ (r ≡ one (ltZ (numberAs s a) (numberAs s b))) × (r ≤ 1) ⌝ }
 {
-    8 * below_signed(t[0], n)
-        + 4 * below_signed(n, t[1])
-        + 2 * below_signed(t[2], n)
-        + below_signed(n, t[3])
+    if s {
+        return below_signed(a, b);
+    }
+    below_unsigned(a, b)
+}
+
+// The four conditions of a number against its thresholds: high alarm, low alarm, high warning, low warning, from bit 3 down.
+fn four_of(s: bool, n: u16, t: [u16; 4]) -> u8
+    ensures { λ r. ⌜ (r ≡ fourOf (numberAs s n) (λ w. numberAs s (at t w))) × (r ≤ 15) ⌝ }
+{
+    8 * below(s, t[0], n) + 4 * below(s, n, t[1]) + 2 * below(s, t[2], n) + below(s, n, t[3])
+}
+
+// One rule for four channels by three quantities: channel `c` of quantity `q`.
+fn rule(x: [[u16; 4]; 3], t: [[u16; 4]; 3], q: usize, c: usize) -> u8
+    requires { ⌜ (q < 3) × (c < 4) ⌝ }
+    ensures { λ r. ⌜ (r ≡ fourOf (pos (cell x q c)) (λ w. pos (cell t q w))) × (r ≤ 15) ⌝ }
+{
+    let limits = t[q];
+    four_of(false, x[q][c], limits)
+}
+
+// Flag byte `j` of a quantity: an odd channel in bits 7 to 4, the even one after it in bits 3 to 0.
+fn flag_byte(x: [[u16; 4]; 3], t: [[u16; 4]; 3], q: usize, j: usize) -> u8
+    requires { ⌜ (q < 3) × (j < 2) ⌝ }
+    ensures { λ r. ⌜ r ≡ 16 * fourOf (pos (cell x q (2 * j))) (λ w. pos (cell t q w)) + fourOf (pos (cell x q (2 * j + 1))) (λ w. pos (cell t q w)) ⌝ }
+{
+    16 * rule(x, t, q, 2 * j) + rule(x, t, q, 2 * j + 1)
 }
 
 // ---- the flag bytes of a sample
@@ -116,14 +116,14 @@ fn temperature(state: &[u8], x: &[u8]) -> u8
     requires { ⌜ (length (now state) ≡ stateSize) × (length (now x) ≡ sampleSize) ⌝ }
     ensures { λ r. ⌜ r ≡ conds (memoryOf (now (state .entry))) (now (x .entry)) 6 ⌝ }
 {
-    16 * signed_four_of(number(x, 3), row_at(state, 512)) // page 03h 128
+    16 * four_of(true, number(x, 3), row_at(state, 512)) // page 03h 128
 }
 
 fn supply(state: &[u8], x: &[u8]) -> u8
     requires { ⌜ (length (now state) ≡ stateSize) × (length (now x) ≡ sampleSize) ⌝ }
     ensures { λ r. ⌜ r ≡ conds (memoryOf (now (state .entry))) (now (x .entry)) 7 ⌝ }
 {
-    16 * four_of(number(x, 5), row_at(state, 528)) // page 03h 144
+    16 * four_of(false, number(x, 5), row_at(state, 528)) // page 03h 144
 }
 
 // Whether bit 2 of page 00h byte 220 offers Tx power.

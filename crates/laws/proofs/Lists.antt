@@ -6,10 +6,10 @@ use mathlib.Core.List.{List}
 use Prim.Native.Nat.{ℕ, zero, suc, _+_, _-_, _≤_, _<_, min, max}
 use native.Mathlib.Nat.{not-suc-le-zero, le-of-suc-le-suc}
 use native.Mathlib.Omega.{arith}
-use lib.Dec.{ltb, eqb}
+use lib.Dec.{eqb}
 use lib.ListN.{length, set, length-set, length-take, length-drop}
 use lib.Seq.{ext-getD, getD-set-same, getD-set-other, getD-take, getD-drop}
-use borrow.Author.Tests.{eqb-true, eqb-false, ltb-true, ltb-false}
+use borrow.Author.Tests.{eqb-true, eqb-false}
 use Rattle.laws.specs.Tests.{if_then_else_, covers}
 use Rattle.laws.specs.Lists.{at, part, table, patch}
 use Rattle.laws.proofs.Tests.{case, not-both, covers-in, covers-below, covers-above, covers-true, covers-none}
@@ -102,24 +102,7 @@ module _ (a : ℕ) (f : ℕ → ℕ) (s : List ℕ) where
       (getD-set-same (patch a k f s) (a + k) (f k) 0 (rw (patch-length a k f s) h))
       (λ i l ne. getD-set-other (patch a k f s) (a + k) i (f k) 0 ne)
 
-  -- a place that keeps its value
-  pub patch-skip : (k : ℕ) → a + k < length s → f k ≡ at s (a + k) → patch a k f s ≡ patch a (k + 1) f s
-  patch-skip k h e = patch-grow (patch a k f s) k (patch-length a k f s) (patch-next k h ∙ sym e) (λ i l ne. refl)
-
 -- ---- two runs
-
--- a run that begins where the run before it ends
-pub patch-join : (a n b m : ℕ) (f g h : ℕ → ℕ) (s : List ℕ) → b ≡ a + n
-    → ((j : ℕ) → j < n → f j ≡ h j) → ((j : ℕ) → j < m → g j ≡ h (n + j)) → patch b m g (patch a n f s) ≡ patch a (n + m) h s
-patch-join a n b m f g h s e p q =
-    let t = patch a n f s in
-    let len = patch-length a n f s in
-    is-patch a (n + m) h s (patch b m g t) (patch-length b m g t ∙ len)
-    (λ j l k. case (ltb j n)
-    (λ x. let y = ltb-true j n x in patch-else b m g t (a + j) (omega arith) (λ u v. omega arith) ∙ patch-in a n f s j y k ∙ p j y)
-    (λ x. let y = ltb-false j n x in let z : b + (j - n) ≡ a + j = omega arith in let w : n + (j - n) ≡ j = omega arith in
-    rw z at (patch-in b m g t (j - n) (omega arith) (omega arith)) ∙ rw w at (q (j - n) (omega arith))))
-    (λ i l k. patch-else b m g t i (omega arith) (λ u v. k (omega arith) (omega arith)) ∙ patch-else a n f s i l (λ u v. k u (omega arith)))
 
 -- n places from `to` on stand for the numbers from a on: those of them replaced that stand for one of the m numbers from b on
 pub patch-overlap : (to a n b m first many : ℕ) (f g : ℕ → ℕ) (s : List ℕ) → first ≡ max a b → many ≡ min (a + n) (b + m) - max a b

@@ -1,15 +1,20 @@
 -- `alarms::below` meets its contract.
 -- Assumes nothing.
 use borrow.Author.Needs.{needs}
-use borrow.Author.Tests.{lt-ltb, le-ltb}
 use Rattle.alarms.proofs.below.Statement.{statement}
 use Rattle.alarms.proofs.below.Tie as tie
 
+below-signed-requires : tie.Need-below-signed-requires
+below-signed-requires c κs = search needs
+
 returns : tie.Need-returns
-returns c = simp (lt-ltb _ _ (c .if1 .taken)) (search needs)
+returns c = rw (c .before .if1 .taken) (c .below-signed .ensures)
+
+below-unsigned-requires : tie.Need-below-unsigned-requires
+below-unsigned-requires c κs = search needs
 
 returns-2 : tie.Need-returns-2
-returns-2 c = simp (le-ltb _ _ (c .if1 .left)) (search needs)
+returns-2 c = rw (c .before .if1 .left) (c .below-unsigned .ensures)
 
 pub below-spec : {M : Type 1} → statement M
-below-spec = tie.close (tie.spec returns returns-2)
+below-spec = tie.close (tie.spec below-signed-requires returns below-unsigned-requires returns-2)

@@ -13,16 +13,16 @@ number-requires c κs = search needs
 row-at-requires : tie.Need-row-at-requires
 row-at-requires c κs = search needs
 
-signed-four-of-requires : tie.Need-signed-four-of-requires
-signed-four-of-requires c κs = search needs
+four-of-requires : tie.Need-four-of-requires
+four-of-requires c κs = search needs
 
 mul-result : tie.Need-mul-result
 mul-result c = search needs
 
 returns : tie.Need-returns
 unfolding conds conditions
-returns c = rw (c .signed-four-of .ensures .0, c .before .before .number .ensures, c .before .row-at .ensures) (sym (add-zero _))
+returns c = rw (c .four-of .ensures .0, c .before .before .number .ensures, c .before .row-at .ensures) (sym (add-zero _))
 
 pub temperature-spec : {M : Type 1} → statement M
 temperature-spec =
-    tie.close (tie.spec number-requires row-at-requires signed-four-of-requires mul-result returns)
+    tie.close (tie.spec number-requires row-at-requires four-of-requires mul-result returns)
