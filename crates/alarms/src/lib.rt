@@ -58,7 +58,7 @@ fn below_unsigned(a: u16, b: u16) -> u8
 }
 
 // Sixteen bits as a signed number.
-fn signed_of(n: u16) -> i16
+pub fn signed_of(n: u16) -> i16
     ensures { λ r. ⌜ r ≡ signed n ⌝ }
 {
     if n < 32768 {

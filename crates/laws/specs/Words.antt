@@ -13,6 +13,7 @@ pub use mathlib.Core.List.{List, [], _∷_, List·Memᴰ, _++_, map}
 pub use lib.ListN.{length, getD}
 pub use lib.Ieee.{div, ofInt, Float, binary64}
 pub use lib.Ieee.Exact.{HasValue}
+pub use denote.Ref.{RefT, ptr, now}
 pub use Rattle.laws.specs.Bits.{bit, has, splice}
 pub use Rattle.laws.specs.Lists.{at, table, patch, sum, part}
 pub use Rattle.laws.specs.Tests.{if_then_else_, Row, firstOf, covers, noneOf, one, Run, _to_, within}

@@ -27,7 +27,7 @@ use Rattle.model.specs.Writing.{Class, page, reaches, written}
 use Rattle.model.specs.Demands.{isReset, Since, Unmasked, Leads, classAt}
 use Rattle.model.proofs.Bytes.{refusal-long, answer-long, state-after, state-runs, memory-at, bytes-at, place-state}
 use Rattle.model.proofs.Writes.{leads-inside, puts-hit, puts-miss, written-bits, page-unsupported, accepted-range}
-use Rattle.model.proofs.Lasting.{lasting, Lasts, step-lasts, supported-lasts, limit-lasts}
+use Rattle.model.proofs.Lasting.{lasting, Lasts, step-lasts, supported-lasts, limit-same}
 use Rattle.model.proofs.Flags.{reset-taken, sample-taken, read-taken, flag-seen}
 use Rattle.model.proofs.Since.{flag-since}
 use Rattle.model.proofs.Sound.{Good, good-run}
@@ -182,6 +182,6 @@ only-reset-changes s c e r =
     let l : Lasts (stateOf (after s c) .mem) (stateOf s .mem) = rw (state-after s c e) (step-lasts (stateOf s) c (rw (refusal-long s c e) at r)) in
     record {
       pages = supported-lasts l;
-      limits = limit-lasts l;
+      limits = limit-same (l .places);
       offer = sym (memory-at (after s c) (paged 0 220) (omega arith)) ∙ l .places (paged 0 220) (unfold lasting in refl) ∙ memory-at s (paged 0 220) (omega arith);
     }

@@ -17,10 +17,10 @@ use Rattle.model.specs.Ports.{Port, operator, recorder, Places, State, C
 use Rattle.model.specs.Map.{pageSize, paged, inPage, memorySize, statusAt, optionsAt, pageAt, supported, Seat, flag, mine, common, status, blank, seat}
 use Rattle.model.specs.Refusals.{accepted}
 use Rattle.model.specs.Reset.{emptied, inPage02, fresh}
-use Rattle.model.specs.Samples.{value, stored, conditions, conds}
+use Rattle.model.specs.Samples.{stored, conditions, conds}
 use Rattle.model.specs.Writing.{classOf, written, entered, store, puts}
 use Rattle.model.specs.Reading.{shared}
-use Rattle.model.specs.Readout.{quantity, limit, over, divisor}
+use Rattle.model.specs.Readout.{inUnit, quantity, limit}
 use Rattle.model.specs.Demands.{isReset}
 use Rattle.model.specs.Calls.{done, step}
 
@@ -96,9 +96,6 @@ fourth x =
 same-lasts : (f : Places) → Lasts f f
 same-lasts f = record { flat = refl; places = λ i e. refl }
 
-then-lasts : {f g h : Places} → Lasts f g → Lasts g h → Lasts f h
-then-lasts a b = record { flat = a .flat ∙ b .flat; places = λ i e. a .places i e ∙ b .places i e }
-
 pub sample-lasts : (mem : Places) (x : List ℕ) → Lasts (λ i. stored mem x i (mem i)) mem
 unfolding stored
 sample-lasts mem x = record {
@@ -112,21 +109,25 @@ unfolding written
 off-list operator mem i j v e = if-both (eqb i j) (rw e) refl
 off-list recorder mem i j v e = if-both (eqb i j) refl refl
 
-pub store-lasts : (m : State) (p : Port) (v : ℕ) (s : Seat) → Lasts (store m p v s .mem) (m .mem)
+off-store : (m : State) (p : Port) (v : ℕ) (s : Seat) (i : ℕ) → shared i ≡ false → store m p v s .mem i ≡ m .mem i
 unfolding store
-store-lasts m p v (flag k) = same-lasts (m .mem)
-store-lasts m p v (mine k) = same-lasts (m .mem)
-store-lasts m p v (common j) = record {
-  flat = ap (bit 2) (off-list p (m .mem) statusAt j v (unfold shared in refl));
-  places = λ i e. off-list p (m .mem) i j v (apart i e .no-shared);
-}
-store-lasts m p v status = same-lasts (m .mem)
-store-lasts m p v blank = same-lasts (m .mem)
+off-store m p v (flag k) i e = refl
+off-store m p v (mine k) i e = refl
+off-store m p v (common j) i e = off-list p (m .mem) i j v e
+off-store m p v status i e = refl
+off-store m p v blank i e = refl
 
-pub puts-lasts : (m : State) (p : Port) (g a : ℕ) (vs : List ℕ) → Lasts (puts m p g a vs .mem) (m .mem)
+pub off-puts : (m : State) (p : Port) (g a : ℕ) (vs : List ℕ) (i : ℕ) → shared i ≡ false → puts m p g a vs .mem i ≡ m .mem i
 unfolding puts
-puts-lasts m p g a [] = same-lasts (m .mem)
-puts-lasts m p g a (v ∷ vs) = then-lasts (puts-lasts (store m p v (seat g a)) p g (suc a) vs) (store-lasts m p v (seat g a))
+off-puts m p g a [] i e = refl
+off-puts m p g a (v ∷ vs) i e = off-puts (store m p v (seat g a)) p g (suc a) vs i e ∙ off-store m p v (seat g a) i e
+
+-- what lasts is off the list
+off-lasts : {f g : Places} → ((i : ℕ) → shared i ≡ false → f i ≡ g i) → Lasts f g
+off-lasts l = record { flat = ap (bit 2) (l statusAt (unfold shared in refl)); places = λ i e. l i (apart i e .no-shared) }
+
+pub store-lasts : (m : State) (p : Port) (v : ℕ) (s : Seat) → Lasts (store m p v s .mem) (m .mem)
+store-lasts m p v s = off-lasts (off-store m p v s)
 
 -- a reset takes all of it from the image
 pub fresh-lasting : (img : List ℕ) (i old : ℕ) → lasting i ≡ true → fresh img i old ≡ at img i
@@ -138,7 +139,7 @@ unfolding done
 done-lasts m (reset img) e = absurd (true≢false e)
 done-lasts m (sample x) e = sample-lasts (m .mem) x
 done-lasts m (read n a k out) e = same-lasts (m .mem)
-done-lasts m (write n a vs) e = puts-lasts m (caller n) (m .own (caller n) pageAt) a vs
+done-lasts m (write n a vs) e = off-lasts (off-puts m (caller n) (m .own (caller n) pageAt) a vs)
 
 -- nothing but an accepted reset changes what the supported pages, the limits and byte 220 say
 pub step-lasts : (m : State) (c : Call) → (accepted m c && isReset c) ≡ false → Lasts (step m c .mem) (m .mem)
@@ -180,10 +181,9 @@ threshold-lasting : (i : ℕ) → paged 3 128 ≤ i → i < paged 3 200 → last
 unfolding lasting
 threshold-lasting i h k = rw (ne-eqb i optionsAt (λ e. omega arith), ne-eqb i (paged 0 220) (λ e. omega arith), covers-in (paged 3 128) 72 i h k)
 
-pub limit-lasts : {f g : Places} → Lasts f g → (n w : ℕ) → w < 4 → limit f n w ≡ limit g n w
-unfolding limit
-limit-lasts {f} {g} l n w h =
+pub limit-same : {f g : Places} → ((i : ℕ) → lasting i ≡ true → f i ≡ g i) → (n w : ℕ) → w < 4 → limit f n w ≡ limit g n w
+limit-same {f} {g} l n w h =
     let (a, b) = limits-at n in
     let i = paged 3 (quantity n .limits + 2 * w) in
-    ap₂ (λ (x y : ℕ). over (value (quantity n .kind) (x * 256 + y)) (divisor (quantity n .kind)))
-    (l .places i (threshold-lasting i (omega arith) (omega arith))) (l .places (i + 1) (threshold-lasting (i + 1) (omega arith) (omega arith)))
+    ap₂ (λ (x y : ℕ). inUnit (quantity n .kind) (x * 256 + y))
+    (l i (threshold-lasting i (omega arith) (omega arith))) (l (i + 1) (threshold-lasting (i + 1) (omega arith) (omega arith)))

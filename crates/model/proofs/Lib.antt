@@ -13,10 +13,13 @@ pub mod Fence
 pub mod Views
 pub mod Interrupt
 pub mod Writes
+pub mod Identity
 pub mod Readout
+pub mod Monitors
 pub mod Begun
 pub mod Demand1
 pub mod Demand2
 pub mod Demand3
 pub mod Contracts
+pub mod Pages
 pub mod Chain

@@ -19,7 +19,7 @@ use Rattle.laws.proofs.Tests.{one-le, beq-same, and-left, and-right}
 use Rattle.model.specs.Ports.{Places, State, nobody, caller, read, write}
 use Rattle.model.specs.Map.{sound, seat}
 use Rattle.model.specs.Samples.{degrees, value, temperature, supply, rxPower, threshold, sampled, limitOf, fourOf, conditions, conds}
-use Rattle.model.specs.Readout.{Exactly, over, divisor}
+use Rattle.model.specs.Readout.{Exactly, inUnit}
 use Rattle.model.specs.Refusals.{readRows, writeRows, allMine, refusal, rows as refusalRows}
 
 -- ---- the table
@@ -44,7 +44,7 @@ abbrev pub Holds : Row → Type 0
 Holds (gains a b g) =
     (mem : Places) (x : List ℕ) → Are (threshold mem rxPower) rxLimits → Are (sampled x rxPower) (a ∷ b ∷ 501 ∷ 501 ∷ [])
     → (conds mem x 9 ≡ g) × (conds mem x 10 ≡ 0)
-Holds (degree n z d) = Exactly (over (value degrees n) (divisor degrees)) z d
+Holds (degree n z d) = Exactly (inUnit degrees n) z d
 Holds (temperatureAlarm limit n raised) =
     (mem : Places) (x : List ℕ) → threshold mem temperature 0 ≡ limit → sampled x temperature 0 ≡ n → bit 7 (conds mem x 6) ≡ raised
 Holds (supplyWarning limit n raised) =
@@ -95,7 +95,7 @@ valued (fin t m e) z d = Bool·beq t (not (nonNeg z)) && eqb (m * up e * d) (nat
 
 abbrev passes : State → Row → Bool
 passes m (gains a b g) = eqb (16 * fourOf (pos a) rxLimit + fourOf (pos b) rxLimit) g
-passes m (degree n z d) = valued (over (value degrees n) (divisor degrees)) z d
+passes m (degree n z d) = valued (inUnit degrees n) z d
 passes m (temperatureAlarm limit n raised) = eqb (one (ltZ (value degrees limit) (value degrees n))) raised
 passes m (supplyWarning limit n raised) = eqb (one (ltb n limit)) raised
 passes m (reads a k r) = eqb (firstOf (readRows a k k)) r
@@ -136,7 +136,7 @@ holds (gains a b g) e = λ mem x limit number. (
       (eqb-true (16 * fourOf (pos a) rxLimit + fourOf (pos b) rxLimit) g (e anyState)),
   rw (limit 0 (lit< tt), limit 1 (lit< tt), limit 2 (lit< tt), limit 3 (lit< tt), number 2 (lit< tt), number 3 (lit< tt)),
 )
-holds (degree n z d) e = valued-exactly (over (value degrees n) (divisor degrees)) z d (e anyState)
+holds (degree n z d) e = valued-exactly (inUnit degrees n) z d (e anyState)
 holds (temperatureAlarm l n raised) e = λ mem x limit number.
     four-high (value degrees (sampled x temperature 0)) (limitOf mem temperature) .0
     ∙ rw (limit, number) (eqb-true (one (ltZ (value degrees l) (value degrees n))) raised (e anyState))

@@ -1,13 +1,14 @@
 -- The numbers that the definitions work out are the paper's: computed, one after the other.
 -- Assumes nothing.
 use mathlib.Core.Path.{_≡_, refl}
-use mathlib.Core.List.{[], _∷_, map}
-use Prim.Native.Nat.{_*_}
+use mathlib.Core.List.{List, [], _∷_, map}
+use Prim.Native.Nat.{ℕ, _*_}
 use Rattle.laws.specs.Tests.{Run}
+use Rattle.laws.specs.Lists.{table}
 use Rattle.model.specs.Ports.{operator, recorder}
-use Rattle.model.specs.Map.{paged, memorySize, recordSize, stateSize, base, flagOf, lowMaskOf, highMaskOf, pageAt}
+use Rattle.model.specs.Map.{pageSize, paged, memorySize, recordSize, stateSize, base, flagOf, lowMaskOf, highMaskOf, pageAt}
 use Rattle.model.specs.Samples.{Quantity, quantities, sampleSize}
-use Rattle.model.specs.Readout.{fields}
+use Rattle.model.specs.Readout.{fields, fieldStart, trimmed, fieldLength, divisor, monitored, monitorAt, quantity}
 use Rattle.model.specs.Interrupt.{Pair, pairs}
 
 -- "0 to 127: lower memory. 128 to 255: page 00h. 256 to 383: page 01h. 384 to 511: page 02h. 512 to 639: page 03h. 640 to 663: the
@@ -43,3 +44,27 @@ stored-numbers = (refl, refl)
 -- the lengths of the six identity fields
 field-numbers : map (λ (r : Run). r .many) fields ≡ 16 ∷ 3 ∷ 16 ∷ 2 ∷ 16 ∷ 8 ∷ []
 field-numbers = refl
+
+-- "0 to 13 in sample order": where each monitor is stored, and what its number is divided by
+abbrev all : List ℕ
+all = 0 ∷ 1 ∷ 2 ∷ 3 ∷ 4 ∷ 5 ∷ 6 ∷ 7 ∷ 8 ∷ 9 ∷ 10 ∷ 11 ∷ 12 ∷ 13 ∷ []
+
+monitor-numbers : map (λ n. monitorAt (monitored n quantities) n) all ≡ 22 ∷ 26 ∷ 34 ∷ 36 ∷ 38 ∷ 40 ∷ 42 ∷ 44 ∷ 46 ∷ 48 ∷ 50 ∷ 52 ∷ 54 ∷ 56 ∷ []
+monitor-numbers = refl
+
+divisor-numbers : map (λ n. divisor (monitored n quantities .kind)) all
+    ≡ 256 ∷ 10000 ∷ 10000 ∷ 10000 ∷ 10000 ∷ 10000 ∷ 500 ∷ 500 ∷ 500 ∷ 500 ∷ 10000 ∷ 10000 ∷ 10000 ∷ 10000 ∷ []
+divisor-numbers = refl
+
+-- "quantity 0 to 4: temperature, supply, Rx power, bias, Tx power": where the thresholds of each begin
+limits-numbers : map (λ n. paged 3 (quantity n .limits)) (0 ∷ 1 ∷ 2 ∷ 3 ∷ 4 ∷ []) ≡ 512 ∷ 528 ∷ 560 ∷ 568 ∷ 576 ∷ []
+limits-numbers = refl
+
+-- where each of the six identity fields begins in its page
+start-numbers : map fieldStart (1 ∷ 2 ∷ 3 ∷ 4 ∷ 5 ∷ 6 ∷ []) ≡ 20 ∷ 37 ∷ 40 ∷ 56 ∷ 68 ∷ 84 ∷ []
+start-numbers = refl
+
+-- "without trailing 20h bytes (the OUI whole)": the lengths of the six fields in a page of 20h alone
+blank-numbers : map (fieldLength (table pageSize (λ i. 0x20))) (1 ∷ 2 ∷ 3 ∷ 4 ∷ 5 ∷ 6 ∷ []) ≡ 0 ∷ 3 ∷ 0 ∷ 0 ∷ 0 ∷ 0 ∷ []
+unfolding trimmed table
+blank-numbers = refl

@@ -1,33 +1,35 @@
--- Document 01, "Identity, monitors, limits": a temperature's division by 256 is exact; a refused identity call has an empty view, and
--- one that is not refused has a sound page; what is left out of a field is its trailing 20h bytes, all of them and nothing else.
+-- Document 01, "Monitors, limits": a temperature's division by 256 is exact, as a monitor shows it and as a limit; when a monitor says that
+-- nothing is measured.
 -- Assumes nothing.
 use mathlib.Core.Path.{_≡_, refl, sym, ap, _∙_}
-use mathlib.Core.Logic.{_≢_}
-use mathlib.Core.Bool.{Bool, true, false, _||_}
-use mathlib.Core.List.{List, []}
-use Prim.Native.Nat.{ℕ, zero, suc, _+_, _-_, _*_, _^_, _≤_, _<_}
+use mathlib.Core.Logic.{_↔_}
+use mathlib.Core.Bool.{Bool, true, false, false≢true, not, _&&_, _||_, Bool·beq}
+use mathlib.Core.List.{List}
+use Prim.Native.Nat.{ℕ, suc, _+_, _*_, _^_, _<_}
 use native.Mathlib.Nat.{mul-assoc, mul-comm, mul-pos, lt-of-lt-of-le, le-of-lt, mul-lt-mul-of-pos-right}
 use native.Mathlib.Omega.{arith}
 use lib.IntN.{ℤ, pos, negsuc, natAbs}
-use lib.Dec.{lit<, lit≤, ltb, eqb}
-use lib.ListN.{length}
+use lib.Dec.{lit<, lit≤, leb, ltb, eqb}
 use lib.Pow.{pow-pos}
 use lib.Ieee.{Float, nan, inf, fin, binary64, div, ofInt, round, unlike, up, down}
 use lib.Ieee.Fits.{down-pos}
 use lib.Ieee.Exact.{HasValue, round-exact}
 use lib.Ieee.Back.{round-whole}
 use lib.Ieee.Scale.{round-same}
-use borrow.Author.Tests.{eqb-true, eqb-false, ne-eqb, not-true, not-false}
-use Rattle.laws.specs.Tests.{covers, firstOf}
+use Rattle.laws.specs.Tests.{if_then_else_, firstOf}
+use Rattle.laws.specs.Bits.{has}
 use Rattle.laws.specs.Lists.{at}
-use Rattle.laws.proofs.Tests.{case, if-elim, and-left, and-right, covers-true}
-use Rattle.laws.proofs.Rows.{first-none}
-use Rattle.model.specs.Samples.{degrees, signed, value}
-use Rattle.model.specs.Readout.{Exactly, soundPage, fields, pageUsed, trimmed, divisor, over}
-use Rattle.model.specs.Refusals.{identityRows}
-use Rattle.model.specs.Calls.{viewOf}
+use Rattle.laws.proofs.Tests.{case, if-elim, beq-same}
+use Rattle.laws.proofs.Finite.{always-at}
+use Rattle.model.specs.Ports.{Places}
+use Rattle.model.specs.Map.{memorySize, statusAt, paged}
+use Rattle.model.specs.Samples.{word, degrees, signed, value, quantities, offered}
+use Rattle.model.specs.Readout.{Exactly, over, inUnit, Measured, measured, nothing, monitored, monitor, limit}
+use Rattle.model.specs.Refusals.{monitorRows}
+use Rattle.model.specs.Bytes.{memoryOf}
+use Rattle.model.specs.Contracts.{Told, refused, given, monitorTold}
 
--- ---- temperature
+-- ---- a temperature is exact
 
 -- a number of at most 53 binary digits, by 256, is rounded to itself
 round-256 : (s : Bool) (n : ℕ) → n < 2 ^ 53 → HasValue (round binary64 s n 256) s n 256
@@ -60,54 +62,70 @@ whole-256 (pos n) h = div-256 (round binary64 false n 1) false n h (round-whole 
 whole-256 (negsuc k) h = div-256 (round binary64 true (suc k) 1) true (suc k) h (round-whole binary64 true (suc k) (le-of-lt h))
 
 -- "one f64 division by 256, which is exact, for temperature"
-pub temperature-exact : (n : ℕ) → n < 65536 → Exactly (over (value degrees n) (divisor degrees)) (value degrees n) 256
+pub temperature-exact : (n : ℕ) → n < 65536 → Exactly (inUnit degrees n) (value degrees n) 256
 temperature-exact n h = whole-256 (signed n) (lt-of-lt-of-le small (lit≤ tt))
   where
     small : natAbs (signed n) < 65537
     small = if-elim (λ z. natAbs z < 65537) (ltb n 32768) (λ e. omega arith) (λ e. omega arith)
 
--- ---- identity
+-- ---- of bytes that a caller lends
 
--- "A refusal ..: its view is empty"; where there is none, the field number is 1 to 6 and the page that is used is sound
-pub refused-view : (live factory : List ℕ) (f : ℕ)
-    → (firstOf (identityRows live factory f) ≢ 0 → viewOf live factory f ≡ [])
-    × (firstOf (identityRows live factory f) ≡ 0 → (1 ≤ f) × (f ≤ 6) × (soundPage (pageUsed live factory) ≡ true))
-refused-view live factory f = (λ d. rw (ne-eqb (firstOf (identityRows live factory f)) 0 d), passed)
+module _ (s : List ℕ) (bytes : (i : ℕ) → at s i < 256) where
+  memory-byte : (i : ℕ) → memoryOf s i < 256
+  memory-byte i = if-elim (λ n. n < 256) (ltb i memorySize) (λ e. bytes i) (λ e. omega arith)
+
+  word-fits : (i : ℕ) → word (memoryOf s) i < 65536
+  word-fits i =
+      let a = memory-byte i in
+      let b = memory-byte (i + 1) in
+      omega arith
+
+  -- the number that an answer shows, or else y
+  abbrev shown : Told Measured → Float → Float
+  shown (refused n) y = y
+  shown (given nothing) y = y
+  shown (given (measured k x)) y = x
+
+  -- the temperature that monitor 0 shows is the number at 22 over 256
+  pub monitor-exact : (x : Float) → monitorTold s 0 ≡ given (measured degrees x) → Exactly x (signed (word (memoryOf s) 22)) 256
+  unfolding monitor
+  monitor-exact x e = rw x-is (temperature-exact (word (memoryOf s) 22) (word-fits 22))
+    where
+      y : Float
+      y = inUnit degrees (word (memoryOf s) 22)
+
+      x-is : x ≡ y
+      x-is =
+          sym (ap (λ t. shown t y) e) ∙ if-elim (λ t. shown t y ≡ y) (eqb (firstOf (monitorRows s 0)) 0)
+          (λ t. if-elim (λ m. shown (given m) y ≡ y) (has 0 (memoryOf s statusAt) || false) (λ u. refl) (λ u. refl)) (λ t. refl)
+
+  -- so is each of its limits
+  pub limits-exact : (w : ℕ) → Exactly (limit (memoryOf s) 0 w) (signed (word (memoryOf s) (paged 3 (128 + 2 * w)))) 256
+  limits-exact w = temperature-exact (word (memoryOf s) (paged 3 (128 + 2 * w))) (word-fits (paged 3 (128 + 2 * w)))
+
+-- ---- nothing measured
+
+abbrev isNothing : Measured → Bool
+isNothing (measured k x) = false
+isNothing nothing = true
+
+-- "the last exactly while Data_Not_Ready is 1 or for Tx power that byte 220 doesn't offer": monitors 10 to 13
+pub nothing-exactly : (mem : Places) (n : ℕ) → n < 14
+    → (monitor mem n ≡ nothing) ↔ ((has 0 (mem statusAt) || (leb 10 n && not (has 2 (mem (paged 0 220))))) ≡ true)
+unfolding monitor
+nothing-exactly mem n h =
+    rw test (case (has 0 (mem statusAt) || not (offered mem (monitored n quantities)))
+    (λ t. rw t (λ e. refl, λ e. refl))
+    (λ t. rw t (λ e. ap isNothing e, λ e. absurd (false≢true e))))
   where
-    used : (soundPage live || soundPage factory) ≡ true → soundPage (pageUsed live factory) ≡ true
-    used s = case (soundPage live) (λ t. rw t t) (λ t. rw t (rw t at s))
+    optional : monitored n quantities .optional ≡ leb 10 n
+    optional =
+        beq-same (monitored n quantities .optional) (leb 10 n) (always-at (λ k. Bool·beq (monitored k quantities .optional) (leb 10 k)) 14 refl n h)
 
-    passed : firstOf (identityRows live factory f) ≡ 0 → (1 ≤ f) × (f ≤ 6) × (soundPage (pageUsed live factory) ≡ true)
-    passed e =
-        let t = first-none (identityRows live factory f) refl .0 e in
-        let n : covers 1 (length fields) f ≡ true = search (and-left, not-true, not-false) in
-        let s : (soundPage live || soundPage factory) ≡ true = search (and-left, and-right, not-true, not-false) in
-        let c = covers-true 1 (length fields) f n in
-        (c .0, omega arith, used s)
+    test : (has 0 (mem statusAt) || (leb 10 n && not (has 2 (mem (paged 0 220))))) ≡ (has 0 (mem statusAt) || not (offered mem (monitored n quantities)))
+    test = rw optional (case (leb 10 n) (λ t. rw t) (λ t. rw t))
 
--- ---- trailing 20h bytes
-
--- "without trailing 20h bytes": of the n bytes from a on, at most all are left
-pub trimmed-le : (page : List ℕ) (a n : ℕ) → trimmed page a n ≤ n
-unfolding trimmed
-trimmed-le page a zero = omega arith
-trimmed-le page a (suc n) =
-    if-elim (λ k. k ≤ suc n) (eqb (at page (a + n)) 0x20) (λ e. let h = trimmed-le page a n in omega arith) (λ e. omega arith)
-
--- the last of those that are left, if any, is not 20h
-pub trimmed-end : (page : List ℕ) (a n : ℕ) → trimmed page a n ≢ 0 → at page (a + (trimmed page a n - 1)) ≢ 0x20
-unfolding trimmed
-trimmed-end page a zero h = absurd (h refl)
-trimmed-end page a (suc n) h = case (eqb (at page (a + n)) 0x20)
-    (λ e. rw e (trimmed-end page a n (rw e at h)))
-    (λ e. let q : a + (suc n - 1) ≡ a + n = omega arith in rw (e, q) (eqb-false (at page (a + n)) 0x20 e))
-
--- all bytes after them are 20h
-pub trimmed-rest : (page : List ℕ) (a n i : ℕ) → trimmed page a n ≤ i → i < n → at page (a + i) ≡ 0x20
-unfolding trimmed
-trimmed-rest page a zero i h k = absurd (omega arith)
-trimmed-rest page a (suc n) i h k = case (eqb (at page (a + n)) 0x20)
-    (λ e. case (eqb i n)
-    (λ t. let q = eqb-true i n t in rw q (eqb-true (at page (a + n)) 0x20 e))
-    (λ t. let d = eqb-false i n t in trimmed-rest page a n i (rw e at h) (omega arith)))
-    (λ e. let l = rw e at h in absurd (omega arith))
+-- computed: a memory of 0 but for Data_Not_Ready
+unready-shows-nothing : monitor (λ i. if eqb i statusAt then 1 else 0) 0 ≡ nothing
+unfolding monitor
+unready-shows-nothing = refl

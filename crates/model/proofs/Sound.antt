@@ -52,7 +52,7 @@ record Tidy (o : Places) : Type 0 where
 tidy-to : (o : Places) → tidy o ≡ true → Tidy o
 unfolding tidy
 tidy-to o e = record {
-  f8 = search (and-left, and-right, eqb-true);
+  f8 = search (and-left, eqb-true);
   f6 = search (and-left, and-right, eqb-true);
   f7 = search (and-left, and-right, eqb-true);
   m103 = search (and-left, and-right, eqb-true);

@@ -1,9 +1,9 @@
 -- What a call leaves and answers, and histories of calls.
 -- Assumes nothing.
-use Rattle.laws.specs.Words.{ℕ, _+_, List, [], _∷_, eqb, if_then_else_, firstOf, patch}
+use Rattle.laws.specs.Words.{ℕ, _+_, List, [], _∷_, eqb, if_then_else_, patch}
 use Rattle.model.specs.Ports.{Port, caller, State, give, Call, reset, sample, read, write}
 use Rattle.model.specs.Map.{pageAt}
-use Rattle.model.specs.Refusals.{refusal, accepted, identityRows}
+use Rattle.model.specs.Refusals.{refusal, accepted, identityRefusal}
 use Rattle.model.specs.Interrupt.{count}
 use Rattle.model.specs.Reset.{fresh}
 use Rattle.model.specs.Samples.{stored, raised}
@@ -52,7 +52,7 @@ answer m p c = answerWith m p (seen (m .mem) (m .own p)) c
 
 -- what an identity call shows: "its view is empty" where it is refused
 abbrev pub viewOf : List ℕ → List ℕ → ℕ → List ℕ
-viewOf live factory f = if eqb (firstOf (identityRows live factory f)) 0 then fieldOf (pageUsed live factory) f else []
+viewOf live factory f = if eqb (identityRefusal live factory f) 0 then fieldOf (pageUsed live factory) f else []
 
 -- ---- histories, the newest call last
 

@@ -4,7 +4,7 @@ use Rattle.laws.specs.Words.{ℕ, zero, suc, _+_, _-_, _*_, Bool, not, _&&_, _|
 use Rattle.model.specs.Ports.{Places}
 use Rattle.model.specs.Map.{pageSize, statusAt}
 use Rattle.model.specs.Reset.{codesRight}
-use Rattle.model.specs.Samples.{word, value, Kind, degrees, volts, milliwatts, milliamperes, Quantity, temperature, quantities, offered, limitOf}
+use Rattle.model.specs.Samples.{word, value, Kind, degrees, volts, milliwatts, milliamperes, Quantity, temperature, quantities, offered, threshold}
 
 -- ---- identity
 
@@ -55,6 +55,10 @@ divisor milliamperes = 500
 abbrev pub over : ℤ → ℕ → Float
 over n d = div binary64 (ofInt binary64 n) (ofInt binary64 (pos d))
 
+-- two bytes in a unit
+abbrev pub inUnit : Kind → ℕ → Float
+inUnit k n = over (value k n) (divisor k)
+
 -- x is the number z / d, and nothing was rounded
 abbrev pub Exactly : Float → ℤ → ℕ → Type 0
 Exactly x z d = HasValue x (not (nonNeg z)) (natAbs z) d
@@ -77,7 +81,7 @@ monitorAt q n = q .stored + 2 * (n - q .number)
 abbrev pub monitorOf : Places → Quantity → ℕ → Measured
 monitorOf mem q n =
     if has 0 (mem statusAt) || not (offered mem q) then nothing
-    else measured (q .kind) (over (value (q .kind) (word mem (monitorAt q n))) (divisor (q .kind)))
+    else measured (q .kind) (inUnit (q .kind) (word mem (monitorAt q n)))
 
 -- what monitor n answers, where it is not refused
 unfoldable pub monitor : Places → ℕ → Measured
@@ -90,5 +94,8 @@ abbrev pub quantity : ℕ → Quantity
 quantity n = getD quantities n temperature
 
 -- "the four limits of a quantity in its own unit": w is 0 high alarm, 1 low alarm, 2 high warning, 3 low warning
-unfoldable pub limit : Places → ℕ → ℕ → Float
-limit mem n w = over (limitOf mem (quantity n) w) (divisor (quantity n .kind))
+abbrev pub limit : Places → ℕ → ℕ → Float
+limit mem n w = inUnit (quantity n .kind) (threshold mem (quantity n) w)
+
+unfoldable pub limits : Places → ℕ → List Float
+limits mem n = limit mem n 0 ∷ limit mem n 1 ∷ limit mem n 2 ∷ limit mem n 3 ∷ []

@@ -79,6 +79,9 @@ abbrev pub identityRows : List ℕ → List ℕ → ℕ → List Row
 identityRows live factory f =
     (12, not (covers 1 (length fields) f)) ∷ (11, not (soundPage live || soundPage factory)) ∷ []
 
+abbrev pub identityRefusal : List ℕ → List ℕ → ℕ → ℕ
+identityRefusal live factory f = firstOf (identityRows live factory f)
+
 -- "monitor and limits 1, 13": "the monitor number is above 13, or the quantity above 4"
 abbrev pub monitorRows : List ℕ → ℕ → List Row
 monitorRows s n = (1, wrongSize s) ∷ (13, leb numbers n) ∷ []

@@ -13,6 +13,9 @@ pub enum Kind {
     Read,
     Write,
     Look,
+    Identity,
+    Monitor,
+    Limits,
     Unknown,
 }
 
@@ -24,7 +27,21 @@ fn is_note(line: &[u8]) -> bool {
     line[0] == b'#'
 }
 
-// A call of the module by its name.
+// A call that only reads, by its name.
+fn readout(name: &[u8]) -> Kind {
+    if check::same(name, b"identity") {
+        return Kind::Identity;
+    }
+    if check::same(name, b"monitor") {
+        return Kind::Monitor;
+    }
+    if check::same(name, b"limits") {
+        return Kind::Limits;
+    }
+    Kind::Unknown
+}
+
+// A call of the module by its name; else one that only reads.
 fn call(name: &[u8]) -> Kind {
     if check::same(name, b"reset") {
         return Kind::Reset;
@@ -41,7 +58,7 @@ fn call(name: &[u8]) -> Kind {
     if check::same(name, b"write") {
         return Kind::Write;
     }
-    Kind::Unknown
+    readout(name)
 }
 
 // What calls no function of the module, by its name; else the call.

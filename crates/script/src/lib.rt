@@ -2,6 +2,7 @@
 // the module here.
 // Proved: every function is safe and ends, on any text and any memory; those that others call ask nothing of their caller.
 pub mod arguments;
+pub mod figures;
 pub mod kinds;
 pub mod lines;
 pub mod memory;

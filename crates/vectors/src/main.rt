@@ -14,58 +14,33 @@
 //   read PORT ADDRESS COUNT ROOM => OUTCOME  the same; it has ROOM bytes
 //   write PORT ADDRESS HH HH .. => OUTCOME   `refused 5`, or `count 1`
 //   look PLACE COUNT => OUTCOME              `00 11`: bytes of the state, at least one
+//   identity FIELD => OUTCOME                `refused 12`, or `live 20 12 46 49 4E ..`: the page that the field came from (live or factory),
+//                                            where it starts there, how long it is, and its bytes; the live page is bytes 128 to 255 of the
+//                                            state, the factory page those of the image (shorter, where these end sooner)
+//   identity FIELD LIVE FACTORY => OUTCOME   the same; the pages have LIVE and FACTORY bytes, from byte 128 on
+//   monitor NUMBER => OUTCOME                `refused 13`, `nothing`, or `degrees -1 BFF0000000000000` (or volts, milliwatts, milliamperes):
+//                                            the number, rounded to eight decimals, and the f64's bit pattern
+//   limits QUANTITY => OUTCOME               `refused 13`, or `75 4052C00000000000 -5 C014000000000000 ..`: high alarm, low alarm, high
+//                                            warning and low warning, each as with a monitor
 //
 // The state and the image have at most 1024 bytes, output memory 256, a sample or a write 64, the script 65536. ` AND CHANGED BYTES` stands
 // after an outcome if a refused call changed a byte of the state or of the output memory, or a read changed output memory past COUNT;
-// ` AND COUNTED` if a refused call reported a count.
+// ` AND COUNTED` if a refused call reported a count; ` AND NOT THE SAME` if the three identity calls, all made, disagree. `?` stands for a
+// number of 256 and more, its sign left out, and for a NaN and its bit pattern.
 //
 // Proved: it is safe and ends, on any script. What the module answers is the module's own contract.
 mod calls;
 mod print;
+mod progress;
+mod readings;
 
+use crate::progress::Progress;
 use libc::STDIN_FILENO;
 use script::kinds;
 use script::kinds::Kind;
 use script::lines;
 use script::memory::MOST;
 use script::setup;
-
-// ---- what goes from line to line
-
-// How long the state and the image are, and the lines as expected and not.
-struct Progress {
-    state_len: usize,
-    image_len: usize,
-    as_expected: u64,
-    not: u64,
-}
-
-impl Progress {
-    fn new() -> Self {
-        Self {
-            state_len: 0,
-            image_len: 0,
-            as_expected: 0,
-            not: 0,
-        }
-    }
-
-    // One line more that is as expected.
-    fn right(mut self) -> Self {
-        self.as_expected = more(self.as_expected);
-        self
-    }
-
-    // One line more that is not.
-    fn wrong(mut self) -> Self {
-        self.not = more(self.not);
-        self
-    }
-}
-
-fn more(n: u64) -> u64 {
-    if n < u64::MAX { n + 1 } else { n }
-}
 
 // ---- set-up
 
@@ -128,6 +103,9 @@ fn outcome(head: &[u8], kind: Kind, state: &mut [u8], image: &[u8], found: &mut 
         Kind::Read => calls::read(head, state, found),
         Kind::Write => calls::write(head, state, found),
         Kind::Look => calls::look(head, state, found),
+        Kind::Identity => readings::identity(head, state, image, found),
+        Kind::Monitor => readings::monitor(head, state, found),
+        Kind::Limits => readings::limits(head, state, found),
         Kind::Note | Kind::State | Kind::Put | Kind::Image | Kind::Change | Kind::Unknown => 0,
     }
 }
@@ -174,9 +152,15 @@ fn follow(line: &[u8], s: Progress, state: &mut [u8], image: &mut [u8]) -> Progr
         Kind::Image => with_image(line, s, image_line(line, image)),
         Kind::Change => with_image(line, s, setup::changed(line, image, s.image_len)),
         Kind::Unknown => unread(line, s),
-        Kind::Reset | Kind::Sample | Kind::Samples | Kind::Read | Kind::Write | Kind::Look => {
-            call(line, kind, s, state, lines::part(image, 0, s.image_len))
-        }
+        Kind::Reset
+        | Kind::Sample
+        | Kind::Samples
+        | Kind::Read
+        | Kind::Write
+        | Kind::Look
+        | Kind::Identity
+        | Kind::Monitor
+        | Kind::Limits => call(line, kind, s, state, lines::part(image, 0, s.image_len)),
     }
 }
 

@@ -1,0 +1,3 @@
+pub mod Identity
+pub mod Quantities
+pub mod Unique

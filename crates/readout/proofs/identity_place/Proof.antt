@@ -1,0 +1,84 @@
+-- `readout::identity_place` meets its contract.
+-- Assumes nothing.
+use mathlib.Core.Path.{sym, _∙_}
+use borrow.Author.Needs.{needs}
+use Rattle.model.proofs.Identity.{sound-long}
+use Rattle.readout.proofs.Identity.{field-known, unknown-place, unsound-place, live-place, factory-place}
+use Rattle.readout.proofs.identity_place.Statement.{statement}
+use Rattle.readout.proofs.identity_place.Tie as tie
+
+nowhere-requires : tie.Need-nowhere-requires
+nowhere-requires c κs = search needs
+
+returns : tie.Need-returns
+returns c =
+    let x = c .before .before .before .before .args in
+    let e = c .nowhere .ensures in
+    rw (e .0, e .1, e .2, e .3) (unknown-place (x .live .now) (x .factory .now) (x .field) (c .before .if1 .taken))
+
+is-sound-requires : tie.Need-is-sound-requires
+is-sound-requires c κs = search needs
+
+start-of-requires : tie.Need-start-of-requires
+start-of-requires c κs = let i = c .before .before in field-known (i .before .before .before .args .field) (i .if1 .left)
+
+length-of-requires : tie.Need-length-of-requires
+length-of-requires c κs =
+    let t = c .before in
+    let (l, h) = start-of-requires t tt in
+    (sound-long _ (sym (t .before .is-sound .ensures) ∙ t .if2 .taken), l, h)
+
+returns-2 : tie.Need-returns-2
+returns-2 c =
+    let t = c .before .before in
+    let s = sym (t .before .is-sound .ensures) ∙ t .if2 .taken in
+    rw (c .before .start-of .ensures, c .length-of .ensures) (live-place _ _ _ (start-of-requires t tt) s)
+
+is-sound-requires-2 : tie.Need-is-sound-requires-2
+is-sound-requires-2 c κs = search needs
+
+start-of-requires-2 : tie.Need-start-of-requires-2
+start-of-requires-2 c κs = let i = c .before .before .before .before in field-known (i .before .before .before .args .field) (i .if1 .left)
+
+length-of-requires-2 : tie.Need-length-of-requires-2
+length-of-requires-2 c κs =
+    let t = c .before in
+    let (l, h) = start-of-requires-2 t tt in
+    (sound-long _ (sym (t .before .is-sound2 .ensures) ∙ t .if3 .taken), l, h)
+
+returns-3 : tie.Need-returns-3
+returns-3 c =
+    let t = c .before .before in
+    let u = t .before .before in
+    let s = sym (u .before .is-sound .ensures) ∙ u .if2 .left in
+    let r = sym (t .before .is-sound2 .ensures) ∙ t .if3 .taken in
+    rw (c .before .start-of2 .ensures, c .length-of2 .ensures) (factory-place _ _ _ (start-of-requires-2 t tt) s r)
+
+nowhere-requires-2 : tie.Need-nowhere-requires-2
+nowhere-requires-2 c κs = search needs
+
+returns-4 : tie.Need-returns-4
+returns-4 c =
+    let t = c .before in
+    let u = t .before .before in
+    let s = sym (u .before .is-sound .ensures) ∙ u .if2 .left in
+    let r = sym (t .before .is-sound2 .ensures) ∙ t .if3 .left in
+    let e = c .nowhere2 .ensures in
+    rw (e .0, e .1, e .2, e .3) (unsound-place _ _ _ (field-known _ (u .before .before .if1 .left)) s r)
+
+pub identity-place-spec : {M : Type 1} → statement M
+identity-place-spec =
+    tie.close
+    (tie.spec
+    nowhere-requires
+    returns
+    is-sound-requires
+    start-of-requires
+    length-of-requires
+    returns-2
+    is-sound-requires-2
+    start-of-requires-2
+    length-of-requires-2
+    returns-3
+    nowhere-requires-2
+    returns-4)
