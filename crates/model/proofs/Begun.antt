@@ -1,20 +1,25 @@
--- From an accepted reset on: the bytes are 688, and their state is the model's, sound after any history.
+-- What an accepted call says of the bytes, and what lasts over any other than an accepted reset. From an accepted reset on: the bytes are
+-- 688, and their state is the model's, sound after any history.
 -- Assumes nothing.
-use mathlib.Core.Path.{_≡_, sym, _∙_}
+use mathlib.Core.Path.{_≡_, refl, sym, ap, _∙_}
 use mathlib.Core.List.{List}
-use mathlib.Core.Bool.{true}
+use mathlib.Core.Bool.{true, false, _&&_}
 use Prim.Native.Nat.{ℕ}
 use native.Mathlib.Omega.{arith}
 use lib.Dec.{eqb}
 use lib.ListN.{length}
-use borrow.Author.Tests.{eqb-true, eq-eqb}
-use Rattle.laws.proofs.Tests.{case}
-use Rattle.model.specs.Ports.{Call, reset}
-use Rattle.model.specs.Map.{stateSize}
-use Rattle.model.specs.Refusals.{accepted}
-use Rattle.model.specs.Calls.{step, Calls, run}
-use Rattle.model.specs.Bytes.{stateOf, rowsOf, refusalOf, after, runs}
+use borrow.Author.Tests.{eqb-true, eq-eqb, not-true, not-false}
+use Rattle.laws.proofs.Tests.{case, and-left, and-right}
+use Rattle.laws.proofs.Rows.{first-none}
+use Rattle.model.specs.Ports.{State, Call, reset}
+use Rattle.model.specs.Map.{memorySize, stateSize}
+use Rattle.model.specs.Reset.{codesRight, imagePage}
+use Rattle.model.specs.Refusals.{rows, accepted}
+use Rattle.model.specs.Demands.{isReset}
+use Rattle.model.specs.Calls.{done, step, Calls, run}
+use Rattle.model.specs.Bytes.{memoryOf, stateOf, rowsOf, refusalOf, after, runs}
 use Rattle.model.proofs.Bytes.{refusal-long, after-length, runs-length, state-after, state-runs}
+use Rattle.model.proofs.Lasting.{Lasts, step-lasts}
 use Rattle.model.proofs.Sound.{Good, good-after}
 
 -- a call that isn't refused is on 688 bytes
@@ -26,7 +31,21 @@ taken-size s c e = case (eqb (length s) stateSize) (λ t. eqb-true (length s) st
 pub taken-state : (s : List ℕ) (c : Call) → refusalOf s c ≡ 0 → accepted (stateOf s) c ≡ true
 taken-state s c e = eq-eqb _ 0 (sym (refusal-long s c (taken-size s c e)) ∙ e)
 
+-- the memory that it leaves
+pub taken-memory : (s : List ℕ) (c : Call) → refusalOf s c ≡ 0 → memoryOf (after s c) ≡ done (stateOf s) c .mem
+unfolding stateOf step
+taken-memory s c e = ap (λ (m : State). m .mem) (state-after s c (taken-size s c e)) ∙ rw (taken-state s c e)
+
+-- what lasts but for an accepted reset
+pub after-lasts : (s : List ℕ) (c : Call) → length s ≡ stateSize → (eqb (refusalOf s c) 0 && isReset c) ≡ false → Lasts (stateOf (after s c) .mem) (stateOf s .mem)
+after-lasts s c e r = rw (state-after s c e) (step-lasts (stateOf s) c (rw (refusal-long s c e) at r))
+
 module _ (s img : List ℕ) (begun : refusalOf s (reset img) ≡ 0) where
+  -- the image has 640 bytes, and its check codes are right
+  pub begun-image : (length img ≡ memorySize) × (codesRight (imagePage img) ≡ true)
+  unfolding refusalOf rowsOf rows
+  begun-image = let n = first-none (rowsOf s (reset img)) refl .0 begun in search (and-left, and-right, eqb-true, not-true, not-false)
+
   pub begun-size : length (after s (reset img)) ≡ stateSize
   begun-size = after-length s (reset img) (taken-size s (reset img) begun)
 

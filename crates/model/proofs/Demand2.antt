@@ -27,12 +27,12 @@ use Rattle.model.specs.Writing.{Class, page, reaches, written}
 use Rattle.model.specs.Demands.{isReset, Since, Unmasked, Leads, classAt}
 use Rattle.model.proofs.Bytes.{refusal-long, answer-long, state-after, state-runs, memory-at, bytes-at, place-state}
 use Rattle.model.proofs.Writes.{leads-inside, puts-hit, puts-miss, written-bits, page-unsupported, accepted-range}
-use Rattle.model.proofs.Lasting.{lasting, Lasts, step-lasts, supported-lasts, limit-same}
+use Rattle.model.proofs.Lasting.{lasting, supported-lasts, limit-same}
 use Rattle.model.proofs.Flags.{reset-taken, sample-taken, read-taken, flag-seen}
 use Rattle.model.proofs.Since.{flag-since}
 use Rattle.model.proofs.Sound.{Good, good-run}
 use Rattle.model.proofs.Interrupt.{interrupt-rule, pin-rule}
-use Rattle.model.proofs.Begun.{taken-size, taken-state, begun-size, begun-state, begun-good, since-size, since-state}
+use Rattle.model.proofs.Begun.{taken-size, taken-state, after-lasts, begun-size, begun-state, begun-good, since-size, since-state}
 
 -- ---- what an accepted read shows
 
@@ -179,7 +179,7 @@ pub record SaysTheSame (s t : List ℕ) : Type 0 where
 
 pub only-reset-changes : (s : List ℕ) (c : Call) → length s ≡ stateSize → (eqb (refusalOf s c) 0 && isReset c) ≡ false → SaysTheSame (after s c) s
 only-reset-changes s c e r =
-    let l : Lasts (stateOf (after s c) .mem) (stateOf s .mem) = rw (state-after s c e) (step-lasts (stateOf s) c (rw (refusal-long s c e) at r)) in
+    let l = after-lasts s c e r in
     record {
       pages = supported-lasts l;
       limits = limit-same (l .places);

@@ -113,13 +113,17 @@ viewed-unique p q = (p .bytes-are ∙ sym (q .bytes-are), λ e. p .place-is e �
 
 -- ---- the view and its place as numbers say the same
 
+-- the numbers of an accepted field
+pub place-taken : {live factory : List ℕ} {f no page start long : ℕ} → Located live factory f no page start long → identityRefusal live factory f ≡ 0
+    → (start ≡ fieldStart f) × (long ≡ fieldLength (pageUsed live factory) f)
+place-taken {live} {factory} {f} l z = (l .start-is ∙ rw z, l .length-is ∙ view-length live factory f z)
+
 module _ {live factory r : RefT (List ℕ)} {f no page start long : ℕ} (l : Located (now live) (now factory) f no page start long) (v : Viewed live factory f r) where
   -- of an accepted field, in the live page where b is true and else in the factory page
   in-page : identityRefusal (now live) (now factory) f ≡ 0 → (b : Bool) → soundPage (now live) ≡ b
       → (page ≡ (if b then 1 else 2)) × (now r ≡ part start long (if b then now live else now factory)) × (ptr r ≡ past (if b then live else factory) start)
   in-page z b u =
-      let a : start ≡ fieldStart f = l .start-is ∙ rw z in
-      let n : long ≡ fieldLength (if b then now live else now factory) f = l .length-is ∙ view-length (now live) (now factory) f z ∙ rw u in
+      let (a, n) = rw u at (place-taken l z) in
       rw (a, n) (l .page-is ∙ rw (z, u), v .bytes-are ∙ rw (z, u), v .place-is z ∙ rw u)
 
   pub view-located : (now r ≡ (if eqb page 0 then [] else part start long (if eqb page 1 then now live else now factory)))

@@ -1,4 +1,5 @@
--- What lasts from one accepted reset to the next: which pages are supported, the limits, and what byte 220 offers.
+-- What lasts from one accepted reset to the next: page 00h and the thresholds, and with them identity, which pages are supported, what
+-- byte 220 offers, and the limits.
 -- Assumes nothing.
 use mathlib.Core.Path.{_≡_, refl, sym, ap, ap₂, _∙_, fun-ext}
 use Prim.Native.Nat.{ℕ, zero, suc, _+_, _-_, _*_, _/_, _%_, _≤_, _<_}
@@ -6,7 +7,7 @@ use mathlib.Core.Bool.{Bool, true, false, true≢false, not, _&&_, _||_}
 use mathlib.Core.List.{List, [], _∷_}
 use lib.Arith.{mod-mul, digits-div}
 use lib.Dec.{eqb, lit<}
-use borrow.Author.Tests.{not-true, eqb-true, ne-eqb}
+use borrow.Author.Tests.{not-true, ne-eqb}
 use native.Mathlib.Omega.{arith}
 use Rattle.laws.specs.Tests.{if_then_else_, _to_}
 use Rattle.laws.specs.Bits.{bit}
@@ -26,11 +27,11 @@ use Rattle.model.specs.Calls.{done, step}
 
 -- ---- the places
 
--- page 00h bytes 195 and 220, and the thresholds in page 03h
+-- page 00h, and the thresholds in page 03h
 unfoldable pub lasting : ℕ → Bool
-lasting i = eqb i optionsAt || (eqb i (paged 0 220) || inPage 3 (128 to 199) i)
+lasting i = inPage 0 (128 to 255) i || inPage 3 (128 to 199) i
 
--- two memories say the same of the supported pages, the limits and byte 220
+-- two memories have the same there, and the same bit 2 of byte 2
 pub record Lasts (f g : Places) : Type 0 where
   pub flat : bit 2 (f statusAt) ≡ bit 2 (g statusAt)
   pub places : (i : ℕ) → lasting i ≡ true → f i ≡ g i
@@ -38,9 +39,9 @@ pub record Lasts (f g : Places) : Type 0 where
 -- such a place is in a page
 last-high : (i : ℕ) → lasting i ≡ true → (pageSize ≤ i) × (i < memorySize)
 unfolding lasting
-last-high i e = case (eqb i optionsAt) (λ t. let q = eqb-true i optionsAt t in (omega arith, omega arith)) (λ t.
-    case (eqb i (paged 0 220)) (λ u. let q = eqb-true i (paged 0 220) u in (omega arith, omega arith)) (λ u.
-    let r = covers-true (paged 3 128) 72 i (rw (t, u) at e) in let a = r .0 in let b = r .1 in (omega arith, omega arith)))
+last-high i e = case (inPage 0 (128 to 255) i)
+    (λ t. let (a, b) = covers-true (paged 0 128) 128 i t in (a, omega arith))
+    (λ t. let (a, b) = covers-true (paged 3 128) 72 i (rw t at e) in (omega arith, omega arith))
 
 -- none of them is byte 2, is emptied by a reset, lies in page 02h or on the shared list
 touched : ℕ → Bool
@@ -179,7 +180,7 @@ limits-at (suc (suc (suc (suc (suc n))))) = (omega arith, omega arith)
 
 threshold-lasting : (i : ℕ) → paged 3 128 ≤ i → i < paged 3 200 → lasting i ≡ true
 unfolding lasting
-threshold-lasting i h k = rw (ne-eqb i optionsAt (λ e. omega arith), ne-eqb i (paged 0 220) (λ e. omega arith), covers-in (paged 3 128) 72 i h k)
+threshold-lasting i h k = rw (covers-above (paged 0 128) 128 i (omega arith), covers-in (paged 3 128) 72 i h k)
 
 pub limit-same : {f g : Places} → ((i : ℕ) → lasting i ≡ true → f i ≡ g i) → (n w : ℕ) → w < 4 → limit f n w ≡ limit g n w
 limit-same {f} {g} l n w h =

@@ -12,18 +12,18 @@ use Rattle.laws.specs.Bits.{bit, has}
 use Rattle.laws.specs.Lists.{at}
 use Rattle.laws.proofs.Tests.{case, and-left, and-right}
 use Rattle.laws.proofs.Finite.{always-at, every-at}
-use Rattle.model.specs.Ports.{Places, State, Call, reset, sample, read, write, caller}
+use Rattle.model.specs.Ports.{Places, Call, reset, sample, read, write, caller}
 use Rattle.model.specs.Map.{paged, statusAt, stateSize, pageAt}
 use Rattle.model.specs.Reset.{fresh}
 use Rattle.model.specs.Samples.{word, numbers, numberOf, quantities, offered, stored}
 use Rattle.model.specs.Reading.{shared}
 use Rattle.model.specs.Readout.{inUnit, measured, nothing, monitored, monitorAt, monitor}
-use Rattle.model.specs.Calls.{done, step}
+use Rattle.model.specs.Calls.{done}
 use Rattle.model.specs.Bytes.{memoryOf, stateOf, refusalOf, after}
 use Rattle.model.specs.Contracts.{given, monitorTold}
 use Rattle.model.proofs.Lasting.{off-puts}
-use Rattle.model.proofs.Bytes.{after-length, state-after}
-use Rattle.model.proofs.Begun.{taken-size, taken-state}
+use Rattle.model.proofs.Bytes.{after-length}
+use Rattle.model.proofs.Begun.{taken-size, taken-memory}
 
 -- ---- the numbers of a sample
 
@@ -69,11 +69,6 @@ odd n = omega arith
 -- a state of 688 bytes gives what the monitor says
 monitor-given : (s : List ℕ) (n : ℕ) → length s ≡ stateSize → n < numbers → monitorTold s n ≡ given (monitor (memoryOf s) n)
 monitor-given s n e h = rw (e, lt-leb numbers n h)
-
--- the memory that an accepted call leaves
-pub taken-memory : (s : List ℕ) (c : Call) → refusalOf s c ≡ 0 → memoryOf (after s c) ≡ done (stateOf s) c .mem
-unfolding stateOf step
-taken-memory s c e = ap (λ (m : State). m .mem) (state-after s c (taken-size s c e)) ∙ rw (taken-state s c e)
 
 module _ (s : List ℕ) (n : ℕ) (h : n < numbers) where
   taken-monitor : (c : Call) → refusalOf s c ≡ 0 → monitorTold (after s c) n ≡ given (monitor (done (stateOf s) c .mem) n)

@@ -16,7 +16,7 @@ use Rattle.laws.proofs.Tests.{case, or-left, or-right, covers-in, covers-below,
 use Rattle.model.specs.Readout.{soundPage, fieldStart, fieldLength, pageUsed, trimmed}
 use Rattle.model.specs.Refusals.{identityRefusal}
 use Rattle.model.specs.Contracts.{Located, Viewed, past}
-use Rattle.model.proofs.Identity.{refused-view, field-fits, sound-long, view-length}
+use Rattle.model.proofs.Identity.{refused-view, field-fits, sound-long, view-length, place-taken}
 
 -- ---- trailing 20h bytes
 
@@ -81,18 +81,15 @@ module _ {live factory : List ℕ} {f n p a l : ℕ} (here : Located live factor
       let (t, s) = page-told (eqb (identityRefusal live factory f) 0) (soundPage live) b (here .page-is) e in
       (eqb-true (identityRefusal live factory f) 0 t, s)
 
-  start-told : a ≡ fieldStart f
-  start-told = here .start-is ∙ rw (taken .0)
-
-  length-told : l ≡ fieldLength (if b then live else factory) f
-  length-told = rw (taken .1) at (here .length-is ∙ view-length live factory f (taken .0))
+  told : (a ≡ fieldStart f) × (l ≡ fieldLength (if b then live else factory) f)
+  told = rw (taken .1) at (place-taken here (taken .0))
 
   -- it lies inside that page
   pub place-fits : a + l ≤ length (if b then live else factory)
   place-fits =
       let (k, h, s) = rw (taken .1) at (refused-view live factory f .1 (taken .0)) in
       let page = if b then live else factory in
-      omega (arith, sound-long page s, field-fits page f h, start-told, length-told)
+      omega (arith, sound-long page s, field-fits page f h, told .0, told .1)
 
 module _ (live factory : RefT (List ℕ)) {r : RefT (List ℕ)} {f n p a l : ℕ} (here : Located (now live) (now factory) f n p a l) where
   -- the part of that page from a up to a + l is the field
@@ -102,8 +99,8 @@ module _ (live factory : RefT (List ℕ)) {r : RefT (List ℕ)} {f n p a l : ℕ
       let (z, s) = taken here b e in
       let k : a + l - a ≡ l = omega arith in
       record {
-        bytes-are = rw (z, s, ← length-told here b e, ← start-told here b e) (rw k at bytes);
-        place-is = λ q. rw (s, ← start-told here b e) place;
+        bytes-are = rw (z, s, ← told here b e .1, ← told here b e .0) (rw k at bytes);
+        place-is = λ q. rw (s, ← told here b e .0) place;
       }
 
   -- a place in neither page is a refused field's

@@ -1,11 +1,11 @@
 // Identity, monitors and limits: the calls that only read. Nothing need be checked first: each call refuses what it cannot take.
 // Proved: what each call answers is, for every input, the model's (document 01, "Identity, monitors, limits").
 ghost use mathlib.Core.Path.{_≡_};
-ghost use Prim.Native.Nat.{_<_};
+ghost use Prim.Native.Nat.{_<_, _≤_};
 ghost use lib.ListN.{length};
-ghost use Rattle.model.specs.Map.{stateSize};
+ghost use Rattle.model.specs.Map.{pageSize, stateSize};
 ghost use Rattle.model.specs.Refusals.{identityRefusal};
-ghost use Rattle.model.specs.Readout.{limits};
+ghost use Rattle.model.specs.Readout.{fieldStart, fieldLength, limits};
 ghost use Rattle.model.specs.Bytes.{memoryOf};
 ghost use Rattle.model.specs.Contracts.{Located, Viewed, monitorTold, limitsTold};
 ghost use Rattle.readout.specs.Meaning.{four, monitorSays, limitsSay};
@@ -34,6 +34,19 @@ fn nowhere(refusal: u8) -> Found
     }
 }
 
+// A field of a sound page, which has this number.
+fn found_in(page: &[u8], number: u8, field: u64) -> Found
+    requires { ⌜ (length (now page) ≡ pageSize) × (1 ≤ field) × (field ≤ 6) ⌝ }
+    ensures { λ r. ⌜ (r .refusal ≡ 0) × (r .page ≡ number) × (r .start ≡ fieldStart field) × (r .length ≡ fieldLength (now (page .entry)) field) ⌝ }
+{
+    Found {
+        refusal: 0,
+        page: number,
+        start: fields::start_of(field),
+        length: fields::length_of(page, field),
+    }
+}
+
 // The place of an identity field, as numbers.
 pub fn identity_place(live: &[u8], factory: &[u8], field: u64) -> Found
     ensures { λ r. ⌜ Located (now (live .entry)) (now (factory .entry)) field (r .refusal) (r .page) (r .start) (r .length) ⌝ }
@@ -42,20 +55,10 @@ pub fn identity_place(live: &[u8], factory: &[u8], field: u64) -> Found
         return nowhere(12);
     }
     if fields::is_sound(live) {
-        return Found {
-            refusal: 0,
-            page: 1,
-            start: fields::start_of(field),
-            length: fields::length_of(live, field),
-        };
+        return found_in(live, 1, field);
     }
     if fields::is_sound(factory) {
-        return Found {
-            refusal: 0,
-            page: 2,
-            start: fields::start_of(field),
-            length: fields::length_of(factory, field),
-        };
+        return found_in(factory, 2, field);
     }
     nowhere(11)
 }

@@ -7,30 +7,28 @@ use Prim.Native.Nat.{ℕ, _+_, _*_, _≤_, _<_}
 use native.Mathlib.Omega.{arith}
 use lib.Dec.{ltb}
 use lib.ListN.{length, set}
-use borrow.Author.Tests.{eqb-true, ltb-true, not-true, not-false}
+use borrow.Author.Tests.{ltb-true}
 use Rattle.laws.specs.Tests.{if_then_else_, Run, _to_}
 use Rattle.laws.specs.Lists.{at, patch, sum}
 use Rattle.laws.specs.Bits.{bit}
-use Rattle.laws.proofs.Tests.{case, if-not, and-left, and-right, covers-in}
-use Rattle.laws.proofs.Rows.{first-none}
+use Rattle.laws.proofs.Tests.{case, if-not, covers-in}
 use Rattle.laws.proofs.Lists.{patch-length, patch-at, patch-below}
 use Rattle.laws.proofs.Fronts.{front-in, front-over, front-set}
 use Rattle.laws.proofs.Runs.{overlaid, overlaid-front}
 use Rattle.model.specs.Ports.{Port, operator, recorder, reset}
 use Rattle.model.specs.Map.{memorySize, recordSize, stateSize, base, statusAt}
-use Rattle.model.specs.Refusals.{rows}
 use Rattle.model.specs.Reset.{emptied, inPage02, fresh}
 use Rattle.model.specs.Interrupt.{count}
 use Rattle.model.specs.Calls.{done}
-use Rattle.model.specs.Bytes.{stateOf, recordOf, bytesOf, rowsOf, refusalOf}
+use Rattle.model.specs.Bytes.{stateOf, recordOf, bytesOf, refusalOf}
 use Rattle.model.specs.Contracts.{Reported}
 use Rattle.model.proofs.Bytes.{base-fits, bytes-by-part, memory-at}
+use Rattle.model.proofs.Begun.{taken-size, begun-image}
 use Rattle.model.proofs.Contracts.{taken-reported}
 
 -- an accepted reset is on 688 bytes, with an image of 640
 pub reset-sizes : (s img : List ℕ) → refusalOf s (reset img) ≡ 0 → (length s ≡ stateSize) × (length img ≡ memorySize)
-unfolding refusalOf rowsOf rows
-reset-sizes s img e = let n = first-none (rowsOf s (reset img)) refl .0 e in search (and-left, and-right, eqb-true, not-true, not-false)
+reset-sizes s img e = (taken-size s (reset img) e, begun-image s img e .0)
 
 -- ---- the memory
 

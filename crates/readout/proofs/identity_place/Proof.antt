@@ -19,40 +19,36 @@ returns c =
 is-sound-requires : tie.Need-is-sound-requires
 is-sound-requires c κs = search needs
 
-start-of-requires : tie.Need-start-of-requires
-start-of-requires c κs = let i = c .before .before in field-known (i .before .before .before .args .field) (i .if1 .left)
-
-length-of-requires : tie.Need-length-of-requires
-length-of-requires c κs =
-    let t = c .before in
-    let (l, h) = start-of-requires t tt in
-    (sound-long _ (sym (t .before .is-sound .ensures) ∙ t .if2 .taken), l, h)
+found-in-requires : tie.Need-found-in-requires
+found-in-requires c κs =
+    let i = c .before .before in
+    let (l, h) = field-known (i .before .before .before .args .field) (i .if1 .left) in
+    (sound-long _ (sym (c .before .is-sound .ensures) ∙ c .if2 .taken), l, h)
 
 returns-2 : tie.Need-returns-2
 returns-2 c =
-    let t = c .before .before in
+    let t = c .before in
     let s = sym (t .before .is-sound .ensures) ∙ t .if2 .taken in
-    rw (c .before .start-of .ensures, c .length-of .ensures) (live-place _ _ _ (start-of-requires t tt) s)
+    let e = c .found-in .ensures in
+    rw (e .0, e .1, e .2, e .3) (live-place _ _ _ (field-known _ (t .before .before .if1 .left)) s)
 
 is-sound-requires-2 : tie.Need-is-sound-requires-2
 is-sound-requires-2 c κs = search needs
 
-start-of-requires-2 : tie.Need-start-of-requires-2
-start-of-requires-2 c κs = let i = c .before .before .before .before in field-known (i .before .before .before .args .field) (i .if1 .left)
-
-length-of-requires-2 : tie.Need-length-of-requires-2
-length-of-requires-2 c κs =
-    let t = c .before in
-    let (l, h) = start-of-requires-2 t tt in
-    (sound-long _ (sym (t .before .is-sound2 .ensures) ∙ t .if3 .taken), l, h)
+found-in-requires-2 : tie.Need-found-in-requires-2
+found-in-requires-2 c κs =
+    let i = c .before .before .before .before in
+    let (l, h) = field-known (i .before .before .before .args .field) (i .if1 .left) in
+    (sound-long _ (sym (c .before .is-sound2 .ensures) ∙ c .if3 .taken), l, h)
 
 returns-3 : tie.Need-returns-3
 returns-3 c =
-    let t = c .before .before in
+    let t = c .before in
     let u = t .before .before in
     let s = sym (u .before .is-sound .ensures) ∙ u .if2 .left in
     let r = sym (t .before .is-sound2 .ensures) ∙ t .if3 .taken in
-    rw (c .before .start-of2 .ensures, c .length-of2 .ensures) (factory-place _ _ _ (start-of-requires-2 t tt) s r)
+    let e = c .found-in2 .ensures in
+    rw (e .0, e .1, e .2, e .3) (factory-place _ _ _ (field-known _ (u .before .before .if1 .left)) s r)
 
 nowhere-requires-2 : tie.Need-nowhere-requires-2
 nowhere-requires-2 c κs = search needs
@@ -73,12 +69,10 @@ identity-place-spec =
     nowhere-requires
     returns
     is-sound-requires
-    start-of-requires
-    length-of-requires
+    found-in-requires
     returns-2
     is-sound-requires-2
-    start-of-requires-2
-    length-of-requires-2
+    found-in-requires-2
     returns-3
     nowhere-requires-2
     returns-4)
