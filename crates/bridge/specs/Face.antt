@@ -1,0 +1,35 @@
+-- What the functions that C calls promise: the model's contracts (model/specs/Contracts.antt), the numbers packed into one.
+-- Assumes nothing.
+use Rattle.laws.specs.Words.{ℕ, _≡_, List}
+use Rattle.model.specs.Ports.{Call}
+use Rattle.model.specs.Contracts.{Reported, ReadDone, WriteDone, Located, monitorTold}
+use Rattle.packing.specs.Packing.{bits0, bits8, bits16, bits24, refusalIn, kindIn}
+
+-- ---- the calls that are lent the state to change it
+
+-- a reset or a sample: the refusal, the operator's count, the recorder's
+pub record ReportPacked (s : List ℕ) (c : Call) (answer : ℕ) (t : List ℕ) : Type 0 where
+  pub report-is : Reported s c (bits0 answer) (bits8 answer) (bits16 answer) t
+  pub rest-is : bits24 answer ≡ 0
+
+-- a read: the refusal, the calling port's count
+pub record ReadPacked (s : List ℕ) (n a k : ℕ) (out : List ℕ) (answer : ℕ) (t shown : List ℕ) : Type 0 where
+  pub read-is : ReadDone s n a k out (bits0 answer) (bits8 answer) t shown
+  pub rest-is : (bits16 answer ≡ 0) × (bits24 answer ≡ 0)
+
+-- a write, likewise
+pub record WritePacked (s : List ℕ) (n a : ℕ) (vs : List ℕ) (answer : ℕ) (t : List ℕ) : Type 0 where
+  pub write-is : WriteDone s n a vs (bits0 answer) (bits8 answer) t
+  pub rest-is : (bits16 answer ≡ 0) × (bits24 answer ≡ 0)
+
+-- ---- identity and monitors
+
+-- where a field lies: the refusal, the page, where the field starts in it, its length
+abbrev pub PlacePacked : List ℕ → List ℕ → ℕ → ℕ → Type 0
+PlacePacked live factory f answer = Located live factory f (bits0 answer) (bits8 answer) (bits16 answer) (bits24 answer)
+
+-- a monitor's kind: the refusal, the kind
+pub record KindPacked (s : List ℕ) (n answer : ℕ) : Type 0 where
+  pub refusal-is : bits0 answer ≡ refusalIn (monitorTold s n)
+  pub kind-is : bits8 answer ≡ kindIn (monitorTold s n)
+  pub rest-is : (bits16 answer ≡ 0) × (bits24 answer ≡ 0)

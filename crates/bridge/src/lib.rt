@@ -1,0 +1,87 @@
+// The C face: the calls of `module` and `readout` under the names of include/zikhrodan.h, over numbers and byte slices. A slice is a
+// pointer and then a length; an answer of several numbers is packed into one.
+// Proved: each answer, and each byte left, is the model's, through the calls' own contracts (specs/Face.antt).
+ghost use mathlib.Core.Path.{_≡_};
+ghost use Rattle.model.specs.Ports.{reset, sample};
+ghost use Rattle.model.specs.Contracts.{monitorTold, limitsTold};
+ghost use Rattle.packing.specs.Packing.{refusalIn, valueIn, limitIn};
+ghost use Rattle.bridge.specs.Face.{ReportPacked, ReadPacked, WritePacked, PlacePacked, KindPacked};
+
+// ---- the calls that are lent the state to change it
+
+#[no_mangle]
+pub extern "C" fn zikhrodan_reset(state: &mut [u8], image: &[u8]) -> u32
+    ensures { λ r. ⌜ ReportPacked (now (state .entry)) (reset (now (image .entry))) r (now (state .exit)) ⌝ }
+{
+    packing::report(module::reset(state, image))
+}
+
+#[no_mangle]
+pub extern "C" fn zikhrodan_sample(state: &mut [u8], x: &[u8]) -> u32
+    ensures { λ r. ⌜ ReportPacked (now (state .entry)) (sample (now (x .entry))) r (now (state .exit)) ⌝ }
+{
+    packing::report(module::sample(state, x))
+}
+
+#[no_mangle]
+pub extern "C" fn zikhrodan_read(
+    state: &mut [u8],
+    port: u64,
+    address: u64,
+    count: u64,
+    out: &mut [u8],
+) -> u32
+    ensures { λ r. ⌜ ReadPacked (now (state .entry)) port address count (now (out .entry)) r (now (state .exit)) (now (out .exit)) ⌝ }
+{
+    packing::answer(module::read(state, port, address, count, out))
+}
+
+#[no_mangle]
+pub extern "C" fn zikhrodan_write(state: &mut [u8], port: u64, address: u64, bytes: &[u8]) -> u32
+    ensures { λ r. ⌜ WritePacked (now (state .entry)) port address (now (bytes .entry)) r (now (state .exit)) ⌝ }
+{
+    packing::answer(module::write(state, port, address, bytes))
+}
+
+// ---- identity
+
+#[no_mangle]
+pub extern "C" fn zikhrodan_identity(live: &[u8], factory: &[u8], field: u64) -> u32
+    ensures { λ r. ⌜ PlacePacked (now (live .entry)) (now (factory .entry)) field r ⌝ }
+{
+    let f = readout::identity_place(live, factory, field);
+    packing::packed(f.refusal, f.page, f.start, f.length)
+}
+
+// ---- monitors
+
+#[no_mangle]
+pub extern "C" fn zikhrodan_monitor_kind(state: &[u8], number: u64) -> u32
+    ensures { λ r. ⌜ KindPacked (now (state .entry)) number r ⌝ }
+{
+    let m = readout::monitor(state, number);
+    packing::packed(packing::monitor_refusal(m), packing::kind(m), 0, 0)
+}
+
+#[no_mangle]
+pub extern "C" fn zikhrodan_monitor_value(state: &[u8], number: u64) -> f64
+    ensures { λ r. ⌜ r ≡ valueIn (monitorTold (now (state .entry)) number) ⌝ }
+{
+    packing::value(readout::monitor(state, number))
+}
+
+// ---- limits
+
+#[no_mangle]
+pub extern "C" fn zikhrodan_limits_refusal(state: &[u8], quantity: u64) -> u32
+    ensures { λ r. ⌜ r ≡ refusalIn (limitsTold (now (state .entry)) quantity) ⌝ }
+{
+    packing::limits_refusal(readout::limits(state, quantity)) as u32
+}
+
+#[no_mangle]
+pub extern "C" fn zikhrodan_limit(state: &[u8], quantity: u64, which: u64) -> f64
+    ensures { λ r. ⌜ r ≡ limitIn (limitsTold (now (state .entry)) quantity) which ⌝ }
+{
+    packing::limit(readout::limits(state, quantity), which)
+}

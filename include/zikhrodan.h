@@ -1,0 +1,218 @@
+/* zikhrodan.h: the register logic of a QSFP28 module with two management ports, for C and C++.
+ *
+ * Link libzikhrodan.a (x86-64). The library keeps nothing between calls and allocates nothing: a module is 688 bytes that the caller
+ * lends. Any bytes, lengths and numbers may be passed; each call refuses what it cannot take, and a refused call changes no byte.
+ *
+ * What the caller owes, and all of it:
+ *   - each pointer is good for as many bytes as the length beside it says (for none where that is 0; it may then be null);
+ *   - memory lent to one call does not overlap, and nobody else touches it during the call.
+ *
+ * What each call does is document 01's, and proved for every input; docs/EXAMINER.md says of what, and what is assumed. The helpers
+ * and names of this header are not proved: they take an answer apart, or name a number, and decide nothing. */
+#ifndef ZIKHRODAN_H
+#define ZIKHRODAN_H
+
+#include <stddef.h>
+#include <stdint.h>
+
+#ifdef __cplusplus
+extern "C" {
+#endif
+
+/* ---- sizes and numbers */
+
+enum {
+    ZIKHRODAN_STATE_LEN = 688,  /* a module's state */
+    ZIKHRODAN_IMAGE_LEN = 640,  /* a factory image: lower memory and pages 00h to 03h */
+    ZIKHRODAN_SAMPLE_LEN = 31,  /* three status bytes and fourteen numbers of two bytes, high byte first */
+    ZIKHRODAN_PAGE_LEN = 128,
+    ZIKHRODAN_PAGE_00_AT = 128, /* where page 00h starts, in a state and in an image */
+    ZIKHRODAN_READ_MAX = 128,
+    ZIKHRODAN_WRITE_MAX = 4
+};
+
+/* The two ports. */
+enum {
+    ZIKHRODAN_OPERATOR = 1,
+    ZIKHRODAN_RECORDER = 2
+};
+
+/* Why a call refuses. The lowest that applies is given, but 12 comes before 11. */
+enum zikhrodan_refusal {
+    ZIKHRODAN_ACCEPTED = 0,
+    ZIKHRODAN_STATE_SIZE = 1,
+    ZIKHRODAN_NO_SUCH_PORT = 2,
+    ZIKHRODAN_UNSOUND_RECORD = 3,
+    ZIKHRODAN_COUNT = 4,
+    ZIKHRODAN_RANGE = 5,
+    ZIKHRODAN_OUTPUT_SHORT = 6,
+    ZIKHRODAN_NOT_ITS_OWN = 7,
+    ZIKHRODAN_SAMPLE_SIZE = 8,
+    ZIKHRODAN_IMAGE_SIZE = 9,
+    ZIKHRODAN_CHECK_CODE = 10,
+    ZIKHRODAN_NO_SOUND_PAGE = 11,
+    ZIKHRODAN_NO_SUCH_FIELD = 12,
+    ZIKHRODAN_NO_SUCH_MONITOR = 13
+};
+
+/* A refusal in words; any number may be passed. */
+static inline const char *zikhrodan_words(uint32_t refusal)
+{
+    switch (refusal) {
+    case ZIKHRODAN_ACCEPTED: return "accepted";
+    case ZIKHRODAN_STATE_SIZE: return "the state isn't 688 bytes";
+    case ZIKHRODAN_NO_SUCH_PORT: return "the port is neither 1 (operator) nor 2 (recorder)";
+    case ZIKHRODAN_UNSOUND_RECORD: return "a port's record in the state is unsound";
+    case ZIKHRODAN_COUNT: return "a read is of 1 to 128 bytes, a write of 1 to 4";
+    case ZIKHRODAN_RANGE: return "it ends past address 255, or it is a write across addresses 127 and 128";
+    case ZIKHRODAN_OUTPUT_SHORT: return "the output memory is shorter than the read";
+    case ZIKHRODAN_NOT_ITS_OWN: return "a recorder's write touches a byte not its own";
+    case ZIKHRODAN_SAMPLE_SIZE: return "the sample isn't 31 bytes";
+    case ZIKHRODAN_IMAGE_SIZE: return "the factory image isn't 640 bytes";
+    case ZIKHRODAN_CHECK_CODE: return "a check code of the factory image is wrong";
+    case ZIKHRODAN_NO_SOUND_PAGE: return "neither page is sound";
+    case ZIKHRODAN_NO_SUCH_FIELD: return "the field number isn't 1 to 6";
+    case ZIKHRODAN_NO_SUCH_MONITOR: return "the monitor number is above 13, or the quantity above 4";
+    default: return "no refusal has this number";
+    }
+}
+
+/* ---- the calls that are lent the state to change it
+ *
+ * Answer: bits 0-7 the refusal (0 accepted); bits 8-15 a count, for reset and sample the operator's, for read and write the calling
+ * port's; bits 16-23 for reset and sample the recorder's count, else 0; bits 24-31 are 0. A refusal's counts are 0.
+ * A count is the number of raised flags that the port's masks let through, after the call. The port's interrupt stands exactly when
+ * the count of an accepted call isn't 0. */
+
+/* Resets the module to a factory image; page 02h keeps its bytes. Refuses 1, 9, 10. */
+uint32_t zikhrodan_reset(uint8_t *state, size_t state_len, const uint8_t *image, size_t image_len);
+
+/* Takes a sample: stores its numbers and raises the flags of its conditions for both ports. Refuses 1, 3 (either record), 8. */
+uint32_t zikhrodan_sample(uint8_t *state, size_t state_len, const uint8_t *sample, size_t sample_len);
+
+/* Reads `count` bytes at `address` (0 to 127 lower memory, 128 to 255 the port's selected page) into the front of `out`, as the port
+ * sees them before the call; the flag bytes read become 0 for this port alone. The rest of `out` stays. Refuses 1 to 6. */
+uint32_t zikhrodan_read(uint8_t *state, size_t state_len, uint64_t port, uint64_t address, uint64_t count, uint8_t *out, size_t out_len);
+
+/* Writes `data` at `address`, the bits that the port may write; other bits stay and the write is still accepted. Refuses 1 to 5, 7. */
+uint32_t zikhrodan_write(uint8_t *state, size_t state_len, uint64_t port, uint64_t address, const uint8_t *data, size_t data_len);
+
+static inline enum zikhrodan_refusal zikhrodan_refusal_of(uint32_t answer)
+{
+    return (enum zikhrodan_refusal)(answer & 0xff);
+}
+
+/* of a read or a write: the calling port's count */
+static inline unsigned zikhrodan_count(uint32_t answer)
+{
+    return answer >> 8 & 0xff;
+}
+
+/* of a reset or a sample */
+static inline unsigned zikhrodan_operator_count(uint32_t answer)
+{
+    return answer >> 8 & 0xff;
+}
+
+static inline unsigned zikhrodan_recorder_count(uint32_t answer)
+{
+    return answer >> 16 & 0xff;
+}
+
+/* ---- identity */
+
+enum zikhrodan_field {
+    ZIKHRODAN_VENDOR_NAME = 1,
+    ZIKHRODAN_VENDOR_OUI = 2,
+    ZIKHRODAN_PART_NUMBER = 3,
+    ZIKHRODAN_REVISION = 4,
+    ZIKHRODAN_SERIAL_NUMBER = 5,
+    ZIKHRODAN_DATE_CODE = 6
+};
+
+/* Where an identity field lies: in the live page 00h if its length and check codes are right, else in the factory's. `live` is 128
+ * bytes, a state's from ZIKHRODAN_PAGE_00_AT on; `factory` likewise an image's. A page of another length is an unsound page.
+ * Answer: bits 0-7 the refusal, 12 or 11; bits 8-15 the page, 1 live, 2 factory; bits 16-23 where the field starts in that page;
+ * bits 24-31 its length without trailing blanks (the OUI whole). Page, start and length are 0 where it is refused. */
+uint32_t zikhrodan_identity(const uint8_t *live, size_t live_len, const uint8_t *factory, size_t factory_len, uint64_t field);
+
+enum zikhrodan_page {
+    ZIKHRODAN_NO_PAGE = 0,
+    ZIKHRODAN_LIVE = 1,
+    ZIKHRODAN_FACTORY = 2
+};
+
+static inline enum zikhrodan_page zikhrodan_identity_page(uint32_t answer)
+{
+    return (enum zikhrodan_page)(answer >> 8 & 0xff);
+}
+
+static inline size_t zikhrodan_identity_start(uint32_t answer)
+{
+    return answer >> 16 & 0xff;
+}
+
+static inline size_t zikhrodan_identity_length(uint32_t answer)
+{
+    return answer >> 24 & 0xff;
+}
+
+/* ---- monitors */
+
+/* Monitors 0 to 13, in the order of a sample. */
+enum zikhrodan_monitor {
+    ZIKHRODAN_TEMPERATURE = 0,
+    ZIKHRODAN_SUPPLY = 1,
+    ZIKHRODAN_RX_POWER_1 = 2, /* to 4: monitors 2 to 5 */
+    ZIKHRODAN_TX_BIAS_1 = 6,  /* to 4: monitors 6 to 9 */
+    ZIKHRODAN_TX_POWER_1 = 10 /* to 4: monitors 10 to 13 */
+};
+
+enum zikhrodan_kind {
+    ZIKHRODAN_NOTHING = 0, /* nothing is measured, or the call is refused */
+    ZIKHRODAN_DEGREES = 1,
+    ZIKHRODAN_VOLTS = 2,
+    ZIKHRODAN_MILLIWATTS = 3,
+    ZIKHRODAN_MILLIAMPERES = 4
+};
+
+/* The kind of a monitor's value. Answer: bits 0-7 the refusal, 1 or 13; bits 8-15 the kind; the rest is 0. */
+uint32_t zikhrodan_monitor_kind(const uint8_t *state, size_t state_len, uint64_t number);
+
+/* The value itself, in the unit of that kind; 0.0 where the kind is 0. */
+double zikhrodan_monitor_value(const uint8_t *state, size_t state_len, uint64_t number);
+
+static inline enum zikhrodan_kind zikhrodan_kind_of(uint32_t answer)
+{
+    return (enum zikhrodan_kind)(answer >> 8 & 0xff);
+}
+
+/* ---- limits */
+
+/* Quantities 0 to 4; their limits are in the unit of their monitors. */
+enum zikhrodan_quantity {
+    ZIKHRODAN_OF_TEMPERATURE = 0,
+    ZIKHRODAN_OF_SUPPLY = 1,
+    ZIKHRODAN_OF_RX_POWER = 2,
+    ZIKHRODAN_OF_TX_BIAS = 3,
+    ZIKHRODAN_OF_TX_POWER = 4
+};
+
+enum zikhrodan_which {
+    ZIKHRODAN_HIGH_ALARM = 0,
+    ZIKHRODAN_LOW_ALARM = 1,
+    ZIKHRODAN_HIGH_WARNING = 2,
+    ZIKHRODAN_LOW_WARNING = 3
+};
+
+/* Why a quantity's limits are refused, 1 or 13; 0 where they are given. */
+uint32_t zikhrodan_limits_refusal(const uint8_t *state, size_t state_len, uint64_t quantity);
+
+/* One limit of a quantity; 0.0 where the limits are refused, or for any other `which`. */
+double zikhrodan_limit(const uint8_t *state, size_t state_len, uint64_t quantity, uint64_t which);
+
+#ifdef __cplusplus
+}
+#endif
+
+#endif

@@ -1,0 +1,56 @@
+/* call.h: one call, as it is made on both engines, and the list of the calls made since a beginning. */
+#ifndef CALL_H
+#define CALL_H
+
+#include "memory.h"
+
+enum kind { RESET, SAMPLE, READ, WRITE, IDENTITY, KIND, VALUE, LIMITS, LIMIT, KINDS };
+
+/* Bytes to lend. A null `at`: no bytes, at a null pointer. Vast ones, more than REGION, are zeros and `at` is anything. */
+struct bytes {
+    const uint8_t *at;
+    size_t len;
+};
+
+struct call {
+    enum kind kind;
+    uint64_t port, address, count;  /* of a read or a write, which has no count but its data's length */
+    uint64_t number, which;         /* the field, the monitor or the quantity; which of its limits */
+    struct bytes first, second;     /* the image, the sample, the data or the live page; the factory page */
+    size_t out_len;                 /* the output memory, */
+    bool out_null;                  /* if it is none at a null pointer, */
+    uint8_t fill;                   /* and what all of it holds before the call */
+};
+
+struct call a_reset(struct bytes image);
+struct call a_sample(struct bytes sample);
+/* The fill changes from one such call to the next. */
+struct call a_read(uint64_t port, uint64_t address, uint64_t count, size_t out_len);
+struct call a_write(uint64_t port, uint64_t address, struct bytes data);
+struct call an_identity(struct bytes live, struct bytes factory, uint64_t field);
+/* KIND, VALUE or LIMITS. */
+struct call of_number(enum kind kind, uint64_t number);
+struct call a_limit(uint64_t quantity, uint64_t which);
+
+/* The answer is a double, given as its bits. */
+bool call_is_double(enum kind kind);
+
+/* A beginning and the calls made since it, with copies of all their bytes. */
+struct list {
+    enum place place;
+    struct bytes state;
+    struct entry {
+        struct call call;
+        size_t first, second;       /* where the copies of its bytes are */
+    } *entries;
+    size_t count, room;
+    uint8_t *bytes;                 /* the copies: the state's, then those of the calls */
+    size_t used, bytes_room;
+};
+
+void list_begin(struct list *list, struct bytes state, enum place place);
+void list_add(struct list *list, const struct call *call);
+struct bytes list_state(const struct list *list);
+struct call list_call(const struct list *list, size_t i);
+
+#endif

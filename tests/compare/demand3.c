@@ -1,0 +1,189 @@
+/* demand3.c: the third demand as pairs of runs, on the library alone. Both begin with the same bytes and the same accepted reset.
+ *
+ * Samples, resets and recorder calls the same, operator calls added, dropped or altered: the recorder's record, its answers, its
+ * byte 2 and every byte that it reads agree, save the bytes of document 01's shared list.
+ * Recorder calls dropped: every operator answer, every byte that the operator reads and every state byte outside the recorder's
+ * record agree. */
+#include "cases.h"
+#include "check.h"
+#include "engines.h"
+#include "generate.h"
+#include "groups.h"
+#include "random.h"
+#include "text.h"
+
+#include <inttypes.h>
+#include <string.h>
+
+enum { OUTPUT_ROOM = 2048, RECORDER_AT = RECORDS_AT + RECORD_LEN };
+
+static struct run {
+    uint8_t state[STATE_LEN], out[OUTPUT_ROOM];
+    uint64_t answer;
+    struct list list;
+} a, b;
+
+static uint64_t excused, excused_differed, varied, dropped, records_differed;
+
+static void print_runs(void)
+{
+    puts("# run A");
+    text_print(&a.list, stdout);
+    puts("# run B");
+    text_print(&b.list, stdout);
+}
+
+static void make(struct run *run, const struct call *call)
+{
+    struct lent lent = { run->state, STATE_LEN, call->first.at, NULL, call->out_null ? NULL : run->out };
+    list_add(&run->list, call);
+    memset(run->out, call->fill, OUTPUT_ROOM);
+    run->answer = by_library(call, &lent);
+    count_calls(1);
+}
+
+static void make_on_both(const struct call *call)
+{
+    make(&a, call);
+    make(&b, call);
+}
+
+static void begin_both(void)
+{
+    uint8_t state[STATE_LEN], image[IMAGE_LEN];
+    random_fill(state, STATE_LEN);
+    some_image(image);
+    memcpy(a.state, state, STATE_LEN);
+    memcpy(b.state, state, STATE_LEN);
+    list_begin(&a.list, (struct bytes){ state, STATE_LEN }, AT_END);
+    list_begin(&b.list, (struct bytes){ state, STATE_LEN }, AT_END);
+    struct call reset = a_reset((struct bytes){ image, IMAGE_LEN });
+    make_on_both(&reset);
+    if (a.answer || b.answer)
+        mismatch("a reset to a right image is refused");
+}
+
+/* Document 01's shared list, for a host address while this page is selected. */
+static bool is_shared(unsigned address, unsigned page)
+{
+    if (address < 128)
+        return address == 86 || address == 87 || address == 88 || address == 93 || address == 98;
+    return page == 2 || (page == 3 && address >= 234 && address <= 241);
+}
+
+/* The recorder's side of a call made on both; `page` is what the recorder had selected before it. */
+static void recorder_agrees(const struct call *call, unsigned page)
+{
+    uint64_t operator_count = call->kind == RESET || call->kind == SAMPLE ? 0xff00 : 0;
+    if ((a.answer ^ b.answer) & ~operator_count)
+        mismatch("the recorder's answers differ, %06" PRIx64 " and %06" PRIx64, a.answer, b.answer);
+    if (call->kind != READ)
+        return;
+    for (unsigned i = 0; i < OUTPUT_ROOM; i++) {
+        bool shared = !(a.answer & 0xff) && i < call->count && is_shared((unsigned)call->address + i, page);
+        excused += shared;
+        excused_differed += shared && a.out[i] != b.out[i];
+        if (!shared && a.out[i] != b.out[i])
+            mismatch("the recorder reads %02x and %02x at output %u", a.out[i], b.out[i], i);
+    }
+}
+
+/* The byte 2 that the recorder would read agrees. It is read from copies, so that the runs are left as they are. */
+static void byte_2_agrees(void)
+{
+    struct call call = a_read(RECORDER, 2, 1, 1);
+    struct run *runs[2] = { &a, &b };
+    uint8_t state[STATE_LEN], out[2];
+    for (int i = 0; i < 2; i++) {
+        memcpy(state, runs[i]->state, STATE_LEN);
+        by_library(&call, &(struct lent){ state, STATE_LEN, NULL, NULL, &out[i] });
+    }
+    count_calls(2);
+    if (out[0] != out[1]) {
+        list_add(&a.list, &call);
+        list_add(&b.list, &call);
+        mismatch("the recorder's byte 2 is %02x and %02x", out[0], out[1]);
+    }
+}
+
+static struct call port_call(uint64_t port)
+{
+    return chance(50) ? some_read(port) : some_write(port);
+}
+
+static void operator_step(void)
+{
+    struct call call = port_call(OPERATOR);
+    unsigned how = random_below(5);
+    varied += how > 0;
+    if (how == 0)
+        make_on_both(&call);
+    else
+        make(how == 1 ? &a : &b, &call);
+    if (how > 2) {
+        call = port_call(OPERATOR);
+        make(&a, &call);
+    }
+}
+
+/* A run with its operator calls added, dropped or altered. */
+static void vary_operator(void)
+{
+    begin_both();
+    for (unsigned steps = 1 + random_below(60); steps; steps--) {
+        if (chance(45)) {
+            operator_step();
+        } else {
+            unsigned page = a.state[RECORDER_AT + SELECTED];
+            struct call call = chance(5) ? some_reset() : chance(30) ? some_sample(a.state) : port_call(RECORDER);
+            make_on_both(&call);
+            recorder_agrees(&call, page);
+        }
+        if (memcmp(a.state + RECORDER_AT, b.state + RECORDER_AT, RECORD_LEN))
+            mismatch("the recorder's record differs");
+        byte_2_agrees();
+    }
+}
+
+/* A run with some of its recorder calls dropped. */
+static void drop_recorder(void)
+{
+    begin_both();
+    for (unsigned steps = 1 + random_below(60); steps; steps--) {
+        if (chance(45)) {
+            struct call call = port_call(RECORDER);
+            bool drop = chance(60);
+            dropped += drop;
+            make(&a, &call);
+            if (!drop)
+                make(&b, &call);
+        } else {
+            struct call call = chance(5) ? some_reset() : chance(30) ? some_sample(a.state) : port_call(OPERATOR);
+            uint64_t recorder_count = call.kind == RESET || call.kind == SAMPLE ? 0xff0000 : 0;
+            make_on_both(&call);
+            if ((a.answer ^ b.answer) & ~recorder_count)
+                mismatch("the operator's answers differ, %06" PRIx64 " and %06" PRIx64, a.answer, b.answer);
+            if (memcmp(a.out, b.out, OUTPUT_ROOM))
+                mismatch("the operator reads other bytes");
+        }
+        if (memcmp(a.state, b.state, RECORDER_AT))
+            mismatch("a state byte outside the recorder's record differs");
+        records_differed += memcmp(a.state + RECORDER_AT, b.state + RECORDER_AT, RECORD_LEN) != 0;
+    }
+}
+
+void group_demand_3(void)
+{
+    random_seed(options.seed);
+    print_with(print_runs);
+    excused = excused_differed = varied = dropped = records_differed = 0;
+    for (uint64_t pair = 0; pair < options.pairs; pair++) {
+        vary_operator();
+        drop_recorder();
+    }
+    if (!excused_differed || !varied || !dropped || !records_differed)
+        fail("it is idle: no shared byte differed, no call was varied or dropped, or no dropped call mattered");
+    say(" in %" PRIu64 " pairs of runs; %" PRIu64 " operator calls varied, %" PRIu64 " shared bytes read by the recorder, "
+        "%" PRIu64 " of which differed; %" PRIu64 " recorder calls dropped, its record differed after %" PRIu64 " calls",
+        2 * options.pairs, varied, excused, excused_differed, dropped, records_differed);
+}

@@ -1,0 +1,66 @@
+/* engines.c: one call on either engine. */
+#include "engines.h"
+
+#include "../../include/zikhrodan.h"
+
+#include <string.h>
+
+static const char *volatile working = "neither engine";
+
+const char *at_work(void)
+{
+    return working;
+}
+
+static uint64_t bits(double number)
+{
+    uint64_t same;
+    memcpy(&same, &number, sizeof same);
+    return same;
+}
+
+static uint64_t library_answer(const struct call *c, const struct lent *l)
+{
+    switch (c->kind) {
+    case RESET: return zikhrodan_reset(l->state, l->state_len, l->first, c->first.len);
+    case SAMPLE: return zikhrodan_sample(l->state, l->state_len, l->first, c->first.len);
+    case READ: return zikhrodan_read(l->state, l->state_len, c->port, c->address, c->count, l->out, c->out_len);
+    case WRITE: return zikhrodan_write(l->state, l->state_len, c->port, c->address, l->first, c->first.len);
+    case IDENTITY: return zikhrodan_identity(l->first, c->first.len, l->second, c->second.len, c->number);
+    case KIND: return zikhrodan_monitor_kind(l->state, l->state_len, c->number);
+    case VALUE: return bits(zikhrodan_monitor_value(l->state, l->state_len, c->number));
+    case LIMITS: return zikhrodan_limits_refusal(l->state, l->state_len, c->number);
+    default: return bits(zikhrodan_limit(l->state, l->state_len, c->number, c->which));
+    }
+}
+
+static uint64_t plain_answer(const struct call *c, const struct lent *l, struct plain *plain)
+{
+    switch (c->kind) {
+    case RESET: return plain_reset(plain, l->first, c->first.len);
+    case SAMPLE: return plain_sample(plain, l->first, c->first.len);
+    case READ: return plain_read(plain, c->port, c->address, c->count, l->out, c->out_len);
+    case WRITE: return plain_write(plain, c->port, c->address, l->first, c->first.len);
+    case IDENTITY: return plain_identity(l->first, c->first.len, l->second, c->second.len, c->number);
+    case KIND: return plain_monitor_kind(plain, c->number);
+    case VALUE: return bits(plain_monitor_value(plain, c->number));
+    case LIMITS: return plain_limits_refusal(plain, c->number);
+    default: return bits(plain_limit(plain, c->number, c->which));
+    }
+}
+
+uint64_t by_library(const struct call *call, const struct lent *lent)
+{
+    working = "the library";
+    uint64_t answer = library_answer(call, lent);
+    working = "neither engine";
+    return answer;
+}
+
+uint64_t by_plain(const struct call *call, const struct lent *lent, struct plain *plain)
+{
+    working = "the plain engine";
+    uint64_t answer = plain_answer(call, lent, plain);
+    working = "neither engine";
+    return answer;
+}

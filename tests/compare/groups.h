@@ -1,0 +1,23 @@
+/* groups.h: the groups of cases, in the order in which they are run. */
+#ifndef GROUPS_H
+#define GROUPS_H
+
+void group_refusals(void);      /* every set of refusals at once */
+void group_lengths(void);       /* every length of what is lent, around and far from its limit */
+void group_vast(void);          /* lengths of 2^32 and more */
+void group_ends(void);          /* 64-bit numbers at the ends of what 7 to 64 bits hold */
+void group_identity(void);
+void group_reset(void);
+void group_select(void);        /* writes of the page number */
+void group_sample(void);
+void group_write(void);
+void group_limits(void);
+void group_records(void);       /* every byte of a record, sound or not, by every call */
+void group_monitors(void);
+void group_read(void);
+void group_starts(void);        /* the other placements: right after unreadable memory, */
+void group_odd(void);           /* and at odd addresses */
+void group_histories(void);     /* random calls */
+void group_demand_3(void);      /* pairs of runs, on the library alone */
+
+#endif

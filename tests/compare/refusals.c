@@ -1,0 +1,151 @@
+/* refusals.c: every set of refusals that can apply to a call at once, for a read and a write. Each ingredient of a call (state,
+ * port, address and length, output) has the refusals that it alone brings written beside it; all combinations are tried. */
+#include "refusals.h"
+
+#include "cases.h"
+#include "check.h"
+#include "groups.h"
+#include "random.h"
+
+#include <string.h>
+
+static bool tried[1 << 14];
+static unsigned sets, impossible;
+
+/* Document 01: the lowest number wins, with one exception: 12 comes before 11. */
+static unsigned picked(unsigned set)
+{
+    static const uint8_t order[] = { 1, 2, 3, 4, 5, 6, 7, 8, 9, 10, 12, 11, 13 };
+    for (size_t i = 0; i < COUNT(order); i++)
+        if (set & R(order[i]))
+            return order[i];
+    return 0;
+}
+
+void try_set(struct call call, unsigned set)
+{
+    tried[set] = true;
+    try_expecting(call, picked(set));
+}
+
+void try_set_of_double(struct call call, unsigned set)
+{
+    if (try(call) && set)
+        fail("a number is given in spite of refusal %u", picked(set));
+}
+
+void end_of_sets(unsigned all, bool (*excluded)(unsigned set))
+{
+    for (unsigned set = 0; set <= all; set++) {
+        if (set & ~all)
+            continue;
+        bool cannot = excluded && excluded(set);
+        if (!cannot && !tried[set])
+            fail("no call with the set %04x of refusals", set);
+        sets++;
+        impossible += cannot;
+    }
+    memset(tried, 0, sizeof tried);
+}
+
+void begin_unsound(size_t len, bool operator_unsound, bool recorder_unsound, unsigned way)
+{
+    static uint8_t state[2 * STATE_LEN];
+    random_state(state, 3, 3);
+    set_configuration(state, 4);
+    if (operator_unsound)
+        make_unsound(state, OPERATOR, way);
+    if (recorder_unsound)
+        make_unsound(state, RECORDER, way);
+    begin_with((struct bytes){ len ? state : NULL, len });
+}
+
+/* Begins with one of these states, in turn: a length, and whose records are unsound. Short ones have no whole record. */
+static const struct { uint16_t len; bool calling, other; } states[] = {
+    { 688, false, false }, { 688, false, true }, { 688, true, false }, { 688, true, true }, { 689, false, false },
+    { 689, true, true }, { 1376, true, false }, { 687, false, false }, { 0, false, false },
+};
+static unsigned begin_state(size_t i, uint64_t port)
+{
+    static unsigned way;
+    bool unsound = states[i].calling;
+    if (port == OPERATOR || port == RECORDER)
+        begin_unsound(states[i].len, port == OPERATOR ? unsound : states[i].other, port == RECORDER ? unsound : states[i].other,
+                      way++ % UNSOUND);
+    else
+        begin_unsound(states[i].len, unsound, unsound, way++ % UNSOUND);
+    return (states[i].len == 688 ? 0 : R(1)) | (unsound ? R(3) : 0);
+}
+
+static const uint64_t ports[] = { 1, 2, 0, 3, UINT32_MAX + UINT64_C(2), UINT64_MAX };
+static unsigned port_set(uint64_t port)
+{
+    return port == OPERATOR || port == RECORDER ? 0 : R(2);
+}
+
+/* Without a port there is no record of a calling port, and no recorder: 2 with 3 and 2 with 7 cannot exist. What comes nearest is
+ * tried all the same: both records unsound, and bytes that are not a recorder's own. */
+static bool port_excludes(unsigned set)
+{
+    return set & R(2) && set & (R(3) | R(7));
+}
+
+static void read_sets(void)
+{
+    static const struct { uint64_t address, count; unsigned set; } spans[] = {
+        { 0, 1, 0 }, { 255, 1, 0 }, { 100, 128, 0 }, { 127, 2, 0 }, { 2, 14, 0 }, { 128, 128, 0 },
+        { 0, 0, R(4) }, { 256, 0, R(4) }, { 0, 129, R(4) }, { 127, 129, R(4) },
+        { 256, 1, R(5) }, { 129, 128, R(5) }, { 255, 2, R(5) }, { 300, 1, R(5) }, { UINT64_MAX, 1, R(5) },
+        { UINT64_MAX - 127, 128, R(5) }, { 257, 0, R(4) | R(5) }, { UINT64_MAX, 0, R(4) | R(5) }, { 128, 129, R(4) | R(5) },
+        { 0, 257, R(4) | R(5) }, { 1, UINT64_MAX, R(4) | R(5) }, { UINT64_MAX, UINT64_MAX, R(4) | R(5) },
+        { 255, UINT64_MAX - 254, R(4) | R(5) },
+    };
+    for (size_t s = 0; s < COUNT(states); s++)
+        for (size_t p = 0; p < COUNT(ports); p++)
+            for (size_t i = 0; i < COUNT(spans); i++)
+                for (int out = 0; out <= 2; out++) {
+                    uint64_t count = spans[i].count, port = ports[p];
+                    bool is_short = out && count;
+                    if (!is_short && count > REGION)
+                        continue;
+                    size_t len = !is_short ? (size_t)count : out == 1 ? 0 : count > 300 ? 300 : (size_t)count - 1;
+                    unsigned set = begin_state(s, port) | port_set(port) | spans[i].set | (is_short ? R(6) : 0);
+                    try_set(a_read(port, spans[i].address, count, len), set);
+                }
+    end_of_sets(R(1) | R(2) | R(3) | R(4) | R(5) | R(6), port_excludes);
+}
+
+/* 100 to 104 and 127 are the recorder's own whatever page is selected. A write of no bytes, or past 255, touches none. */
+static void write_sets(void)
+{
+    static const uint8_t data[6] = { 1, 2, 3, 4, 5, 6 };
+    static const struct { uint64_t address; size_t len; unsigned set; } spans[] = {
+        { 100, 1, 0 }, { 104, 1, 0 }, { 127, 1, 0 }, { 101, 4, 0 }, { 86, 1, R(7) }, { 102, 4, R(7) }, { 99, 2, R(7) },
+        { 124, 4, R(7) }, { 255, 1, R(7) }, { 200, 4, R(7) }, { 3, 1, R(7) }, { 100, 0, R(4) }, { 86, 0, R(4) }, { 256, 0, R(4) },
+        { 100, 5, R(4) }, { 86, 5, R(4) | R(7) }, { 96, 5, R(4) | R(7) }, { 256, 1, R(5) }, { 300, 4, R(5) },
+        { UINT64_MAX, 1, R(5) }, { UINT64_MAX - 3, 4, R(5) }, { 127, 2, R(5) | R(7) }, { 125, 4, R(5) | R(7) },
+        { 126, 3, R(5) | R(7) },
+        { 255, 2, R(5) | R(7) }, { 253, 4, R(5) | R(7) }, { 257, 0, R(4) | R(5) }, { UINT64_MAX, 0, R(4) | R(5) },
+        { 300, 5, R(4) | R(5) }, { UINT64_MAX - 4, 5, R(4) | R(5) }, { 125, 5, R(4) | R(5) | R(7) },
+        { 252, 5, R(4) | R(5) | R(7) }, { 127, 6, R(4) | R(5) | R(7) },
+    };
+    for (size_t s = 0; s < COUNT(states); s++)
+        for (size_t p = 0; p < COUNT(ports); p++)
+            for (size_t i = 0; i < COUNT(spans); i++) {
+                uint64_t port = ports[p];
+                unsigned set = begin_state(s, port) | port_set(port) | (port == OPERATOR ? spans[i].set & ~R(7) : spans[i].set);
+                try_set(a_write(port, spans[i].address, (struct bytes){ data, spans[i].len }), set);
+            }
+    end_of_sets(R(1) | R(2) | R(3) | R(4) | R(5) | R(7), port_excludes);
+}
+
+void group_refusals(void)
+{
+    random_seed(options.seed);
+    sets = impossible = 0;
+    memset(tried, 0, sizeof tried);
+    read_sets();
+    write_sets();
+    refusals_of_the_rest();
+    say(", %u sets of refusals, %u of which cannot exist", sets, impossible);
+}

@@ -1,0 +1,96 @@
+/* header.c: what zikhrodan.h names and takes apart, compiled as C and as C++. It is compared with document 01's numbers.
+ *
+ * Prints a line for each check that fails, and 'N passed, M failed'; exit status 1 if M > 0. */
+#include <stdio.h>
+#include <string.h>
+#include <zikhrodan.h>
+
+static unsigned passed, failed;
+
+static void check(const char *what, int right)
+{
+    if (right) {
+        passed++;
+    } else {
+        failed++;
+        printf("FAILED %s\n", what);
+    }
+}
+
+/* Each refusal has words of its own, and no other number has. */
+static void words(void)
+{
+    const char *unknown = zikhrodan_words(14);
+    for (uint32_t n = 0; n <= 13; n++)
+        for (uint32_t other = 0; other < n; other++)
+            check("two refusals have different words", strcmp(zikhrodan_words(n), zikhrodan_words(other)) != 0);
+    for (uint32_t n = 0; n <= 13; n++)
+        check("a refusal has words", strlen(zikhrodan_words(n)) > 0 && strcmp(zikhrodan_words(n), unknown) != 0);
+    check("255 is no refusal", strcmp(zikhrodan_words(255), unknown) == 0);
+    check("2^32 - 1 is no refusal", strcmp(zikhrodan_words(0xffffffff), unknown) == 0);
+    check("7 is the recorder's", strstr(zikhrodan_words(7), "recorder") != NULL);
+}
+
+/* An answer with another number in each of its four bytes. */
+static void parts(void)
+{
+    uint32_t answer = 0x0a0b010d;
+    check("refusal", zikhrodan_refusal_of(answer) == 13);
+    check("count", zikhrodan_count(answer) == 1);
+    check("operator's count", zikhrodan_operator_count(answer) == 1);
+    check("recorder's count", zikhrodan_recorder_count(answer) == 11);
+    check("page", zikhrodan_identity_page(answer) == ZIKHRODAN_LIVE);
+    check("start", zikhrodan_identity_start(answer) == 11);
+    check("length", zikhrodan_identity_length(answer) == 10);
+    check("kind", zikhrodan_kind_of(answer) == ZIKHRODAN_DEGREES);
+}
+
+/* The names against what the library answers to them. */
+static void names(void)
+{
+    uint8_t state[ZIKHRODAN_STATE_LEN] = {0}, image[ZIKHRODAN_IMAGE_LEN] = {0}, out[ZIKHRODAN_READ_MAX + 1] = {0};
+    uint8_t sample[ZIKHRODAN_SAMPLE_LEN + 1] = {0};
+    const uint8_t *live = state + ZIKHRODAN_PAGE_00_AT, *factory = image + ZIKHRODAN_PAGE_00_AT;
+    const size_t page = ZIKHRODAN_PAGE_LEN;
+
+    check("sizes", zikhrodan_reset(state, sizeof state, image, sizeof image) == ZIKHRODAN_ACCEPTED);
+    check("1", zikhrodan_reset(state, sizeof state - 1, image, sizeof image) == ZIKHRODAN_STATE_SIZE);
+    check("9", zikhrodan_reset(state, sizeof state, image, sizeof image - 1) == ZIKHRODAN_IMAGE_SIZE);
+    check("sample", zikhrodan_sample(state, sizeof state, sample, ZIKHRODAN_SAMPLE_LEN) == ZIKHRODAN_ACCEPTED);
+    check("8", zikhrodan_sample(state, sizeof state, sample, sizeof sample) == ZIKHRODAN_SAMPLE_SIZE);
+    check("2", zikhrodan_read(state, sizeof state, ZIKHRODAN_RECORDER + 1, 0, 1, out, sizeof out) == ZIKHRODAN_NO_SUCH_PORT);
+    check("read", zikhrodan_read(state, sizeof state, ZIKHRODAN_OPERATOR, 0, ZIKHRODAN_READ_MAX, out, sizeof out) == 0);
+    check("4", zikhrodan_read(state, sizeof state, ZIKHRODAN_OPERATOR, 0, ZIKHRODAN_READ_MAX + 1, out, sizeof out) == ZIKHRODAN_COUNT);
+    check("5", zikhrodan_read(state, sizeof state, ZIKHRODAN_OPERATOR, 255, 2, out, sizeof out) == ZIKHRODAN_RANGE);
+    check("6", zikhrodan_read(state, sizeof state, ZIKHRODAN_OPERATOR, 0, 2, out, 1) == ZIKHRODAN_OUTPUT_SHORT);
+    check("write", zikhrodan_write(state, sizeof state, ZIKHRODAN_OPERATOR, 86, out, ZIKHRODAN_WRITE_MAX) == 0);
+    check("7", zikhrodan_write(state, sizeof state, ZIKHRODAN_RECORDER, 86, out, 1) == ZIKHRODAN_NOT_ITS_OWN);
+    check("12", zikhrodan_identity(live, page, factory, page, ZIKHRODAN_DATE_CODE + 1) == ZIKHRODAN_NO_SUCH_FIELD);
+    check("11", zikhrodan_identity(live, 0, factory, 0, ZIKHRODAN_VENDOR_NAME) == ZIKHRODAN_NO_SOUND_PAGE);
+    check("live", zikhrodan_identity_page(zikhrodan_identity(live, page, factory, page, ZIKHRODAN_VENDOR_OUI)) == ZIKHRODAN_LIVE);
+    check("factory", zikhrodan_identity_page(zikhrodan_identity(live, 0, factory, page, ZIKHRODAN_VENDOR_OUI)) == ZIKHRODAN_FACTORY);
+    check("13", zikhrodan_monitor_kind(state, sizeof state, ZIKHRODAN_TX_POWER_1 + 4) == ZIKHRODAN_NO_SUCH_MONITOR);
+    check("volts", zikhrodan_kind_of(zikhrodan_monitor_kind(state, sizeof state, ZIKHRODAN_SUPPLY)) == ZIKHRODAN_VOLTS);
+    check("milliwatts", zikhrodan_kind_of(zikhrodan_monitor_kind(state, sizeof state, ZIKHRODAN_RX_POWER_1)) == ZIKHRODAN_MILLIWATTS);
+    check("milliamperes", zikhrodan_kind_of(zikhrodan_monitor_kind(state, sizeof state, ZIKHRODAN_TX_BIAS_1)) == ZIKHRODAN_MILLIAMPERES);
+    check("nothing", zikhrodan_kind_of(zikhrodan_monitor_kind(state, sizeof state, ZIKHRODAN_TX_POWER_1)) == ZIKHRODAN_NOTHING);
+    check("limits", zikhrodan_limits_refusal(state, sizeof state, ZIKHRODAN_OF_TX_POWER) == ZIKHRODAN_ACCEPTED);
+    check("no limits", zikhrodan_limits_refusal(state, sizeof state, ZIKHRODAN_OF_TX_POWER + 1) == ZIKHRODAN_NO_SUCH_MONITOR);
+    image[512 + 192 - 128 + 2 * ZIKHRODAN_LOW_WARNING] = 0x27; /* 2710h is 10000, 1 milliwatt */
+    image[512 + 192 - 128 + 2 * ZIKHRODAN_LOW_WARNING + 1] = 0x10;
+    check("reset", zikhrodan_reset(state, sizeof state, image, sizeof image) == ZIKHRODAN_ACCEPTED);
+    check("limit", zikhrodan_limit(state, sizeof state, ZIKHRODAN_OF_TX_POWER, ZIKHRODAN_LOW_WARNING) == 1.0);
+    image[191] = 1;
+    check("10", zikhrodan_reset(state, sizeof state, image, sizeof image) == ZIKHRODAN_CHECK_CODE);
+    state[640 + 5] = 1;
+    check("3", zikhrodan_sample(state, sizeof state, sample, ZIKHRODAN_SAMPLE_LEN) == ZIKHRODAN_UNSOUND_RECORD);
+}
+
+int main(void)
+{
+    words();
+    parts();
+    names();
+    printf("%u passed, %u failed\n", passed, failed);
+    return failed > 0;
+}

@@ -1,0 +1,116 @@
+/* values.c: identity fields, monitors and limits: refusals in document 01's order, then the answer. See plain.h. */
+#include "history.h"
+#include "plain.h"
+#include "rules.h"
+
+/* ---- Identity */
+
+static bool sound_page(const uint8_t *page, size_t len)
+{
+    return (BROKEN(58) ? len >= PAGE_LEN : len == PAGE_LEN) && check_codes_right(page);
+}
+
+uint32_t plain_identity(const uint8_t *live, size_t live_len, const uint8_t *factory, size_t factory_len, uint64_t field)
+{
+    static const struct { unsigned first, last; } fields[7] = {
+        [1] = {148, 163}, {165, 167}, {168, 183}, {184, 185}, {196, 211}, {212, 219},
+    };
+    bool use_live = sound_page(live, live_len), no_such_field = field < 1 || field > (BROKEN(32) ? 5 : 6);
+
+    if (no_such_field && !BROKEN(31))
+        return 12;
+    if (!use_live && !sound_page(factory, factory_len))
+        return 11;
+    if (no_such_field)
+        return 12;
+
+    const uint8_t *page = use_live ? live : factory;
+    unsigned start = fields[field].first - 128, length = fields[field].last - fields[field].first + 1;
+    if (field != 2 || BROKEN(60))
+        while (length > 0 && (page[start + length - 1] == 0x20 || (BROKEN(59) && page[start + length - 1] == 0)))
+            length--;
+    return (use_live ? 1u : 2u) << 8 | start << 16 | length << 24;
+}
+
+/* ---- Monitors and limits. The kinds are zikhrodan.h's: degrees, volts, milliwatts, milliamperes. */
+
+static const struct { uint32_t kind; double divisor; } UNITS[5] = {
+    [TEMPERATURE] = {1, 256}, [SUPPLY] = {2, 10000}, [RX_POWER] = {3, 10000}, [TX_BIAS] = {4, BROKEN(61) ? 1000 : 500},
+    [TX_POWER] = {3, 10000},
+};
+
+static double in_its_unit(unsigned quantity, const uint8_t *two_bytes)
+{
+    return (double)number(quantity, two_bytes) / UNITS[quantity].divisor;
+}
+
+static unsigned quantity_of(uint64_t monitor)
+{
+    return monitor < 2 ? (unsigned)monitor : RX_POWER + (unsigned)(monitor - 2) / 4;
+}
+
+static unsigned channel_of(uint64_t monitor)
+{
+    return monitor < 2 ? 0 : (unsigned)(monitor - 2) % 4;
+}
+
+static uint32_t monitor_refusal(const struct plain *m, uint64_t monitor, uint8_t *now)
+{
+    if (!work_out(m, now))
+        return 1;
+    if (monitor > (BROKEN(33) ? 12 : 13))
+        return 13;
+    return 0;
+}
+
+static bool measured(const uint8_t *now, uint64_t monitor)
+{
+    bool data_not_ready = (now[2] & 0x01) != 0 && !BROKEN(62);
+
+    return !data_not_ready && (quantity_of(monitor) != TX_POWER || tx_power_offered(now) || BROKEN(63));
+}
+
+uint32_t plain_monitor_kind(const struct plain *m, uint64_t monitor)
+{
+    uint8_t now[STATE_LEN];
+    uint32_t refusal = monitor_refusal(m, monitor, now);
+
+    if (refusal)
+        return refusal;
+    return measured(now, monitor) ? UNITS[quantity_of(monitor)].kind << 8 : 0;
+}
+
+double plain_monitor_value(const struct plain *m, uint64_t monitor)
+{
+    uint8_t now[STATE_LEN];
+
+    if (monitor_refusal(m, monitor, now) || !measured(now, monitor))
+        return 0.0;
+    return in_its_unit(quantity_of(monitor), now + QUANTITIES[quantity_of(monitor)].stored_at + 2 * channel_of(monitor));
+}
+
+static uint32_t limits_refusal(const struct plain *m, uint64_t quantity, uint8_t *now)
+{
+    if (!work_out(m, now))
+        return 1;
+    if (quantity > (BROKEN(34) ? 3 : 4))
+        return 13;
+    return 0;
+}
+
+uint32_t plain_limits_refusal(const struct plain *m, uint64_t quantity)
+{
+    uint8_t now[STATE_LEN];
+
+    return limits_refusal(m, quantity, now);
+}
+
+/* The limits are in the thresholds' order: high alarm 0, low alarm 1, high warning 2, low warning 3. */
+double plain_limit(const struct plain *m, uint64_t quantity, uint64_t which)
+{
+    uint8_t now[STATE_LEN];
+
+    if (limits_refusal(m, quantity, now) || which > 3)
+        return 0.0;
+    return in_its_unit((unsigned)quantity, now + QUANTITIES[quantity].limits_at + 2 * (BROKEN(64) ? 3 - which : which));
+}

@@ -1,0 +1,56 @@
+# machine.sh: what the scripts need of this machine. Sourced, not run; the script that does so has set -euo pipefail.
+#
+#   need COMMAND PACKAGE ..   where COMMAND is missing: Debian's PACKAGEs are installed, if this is root on a system with apt-get
+#   compile WORDS ..          the C compiler for x86-64, which is what the library is compiled for
+#   compile_cpp WORDS ..      the C++ compiler for x86-64
+#   run PROGRAM WORDS ..      runs an x86-64 program: as it is, or on Arm under the toolchain's emulator
+#   EMULATED                  1 where `run` emulates, else empty
+#
+# `cc` and its packages are this machine's own compiler, for what is loaded into this machine's own programs.
+
+stop() {
+    echo "${0##*/}: $1" >&2
+    exit 2
+}
+
+need() {
+    local command=$1
+    shift
+    command -v "$command" >/dev/null && return
+    if [ "$(id -u)" -ne 0 ] || ! command -v apt-get >/dev/null; then
+        stop "$command is missing: install Debian's $*, or what has it here"
+    fi
+    echo "-- installing $*"
+    local said
+    if ! said=$({ apt-get -q update && DEBIAN_FRONTEND=noninteractive apt-get -q -y --no-install-recommends install "$@"; } 2>&1); then
+        tail -n 5 <<<"$said" >&2
+        stop "$* cannot be installed"
+    fi
+    command -v "$command" >/dev/null || stop "$command is missing, with $* installed"
+}
+
+case $(uname -m) in
+x86_64)
+    EMULATED=
+    compile() { need gcc gcc libc6-dev && gcc "$@"; }
+    compile_cpp() { need g++ g++ && g++ "$@"; }
+    run() { "$@"; }
+    ;;
+aarch64)
+    EMULATED=1
+    compile() { need x86_64-linux-gnu-gcc gcc-x86-64-linux-gnu libc6-dev-amd64-cross && x86_64-linux-gnu-gcc -static "$@"; }
+    # g++ would add -lm, and the libm.a of Debian 12's libc6-dev-amd64-cross names files that are elsewhere.
+    compile_cpp() {
+        need x86_64-linux-gnu-g++ g++-x86-64-linux-gnu libc6-dev-amd64-cross && x86_64-linux-gnu-gcc -static "$@" -lstdc++
+    }
+    run() {
+        local toolchain
+        command -v rt >/dev/null || stop "rt, the Rattle toolchain's command, is not on the PATH"
+        toolchain=$(dirname -- "$(dirname -- "$(rt doc)")")
+        "$toolchain/on/aarch64/toolchain/bin/qemu-x86_64" "$@"
+    }
+    ;;
+*)
+    stop "the library is for x86-64; on this machine, $(uname -m), it is neither native nor emulated"
+    ;;
+esac
