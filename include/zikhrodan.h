@@ -97,26 +97,32 @@ uint32_t zikhrodan_read(uint8_t *state, size_t state_len, uint64_t port, uint64_
 /* Writes `data` at `address`, the bits that the port may write; other bits stay and the write is still accepted. Refuses 1 to 5, 7. */
 uint32_t zikhrodan_write(uint8_t *state, size_t state_len, uint64_t port, uint64_t address, const uint8_t *data, size_t data_len);
 
+/* Bits `first` to `first` + 7 of an answer. */
+static inline uint32_t zikhrodan_bits(uint32_t answer, unsigned first)
+{
+    return answer >> first & 0xff;
+}
+
 static inline enum zikhrodan_refusal zikhrodan_refusal_of(uint32_t answer)
 {
-    return (enum zikhrodan_refusal)(answer & 0xff);
+    return (enum zikhrodan_refusal)zikhrodan_bits(answer, 0);
 }
 
 /* of a read or a write: the calling port's count */
 static inline unsigned zikhrodan_count(uint32_t answer)
 {
-    return answer >> 8 & 0xff;
+    return zikhrodan_bits(answer, 8);
 }
 
 /* of a reset or a sample */
 static inline unsigned zikhrodan_operator_count(uint32_t answer)
 {
-    return answer >> 8 & 0xff;
+    return zikhrodan_bits(answer, 8);
 }
 
 static inline unsigned zikhrodan_recorder_count(uint32_t answer)
 {
-    return answer >> 16 & 0xff;
+    return zikhrodan_bits(answer, 16);
 }
 
 /* ---- identity */
@@ -144,17 +150,17 @@ enum zikhrodan_page {
 
 static inline enum zikhrodan_page zikhrodan_identity_page(uint32_t answer)
 {
-    return (enum zikhrodan_page)(answer >> 8 & 0xff);
+    return (enum zikhrodan_page)zikhrodan_bits(answer, 8);
 }
 
 static inline size_t zikhrodan_identity_start(uint32_t answer)
 {
-    return answer >> 16 & 0xff;
+    return zikhrodan_bits(answer, 16);
 }
 
 static inline size_t zikhrodan_identity_length(uint32_t answer)
 {
-    return answer >> 24 & 0xff;
+    return zikhrodan_bits(answer, 24);
 }
 
 /* ---- monitors */
@@ -184,7 +190,7 @@ double zikhrodan_monitor_value(const uint8_t *state, size_t state_len, uint64_t 
 
 static inline enum zikhrodan_kind zikhrodan_kind_of(uint32_t answer)
 {
-    return (enum zikhrodan_kind)(answer >> 8 & 0xff);
+    return (enum zikhrodan_kind)zikhrodan_bits(answer, 8);
 }
 
 /* ---- limits */

@@ -13,13 +13,8 @@ static void set_situation(uint8_t *state, unsigned situation)
     state[OFFERED_AT] = (uint8_t)((state[OFFERED_AT] & 0xfbu) | (situation >> 1) << 2);
 }
 
-static void kind_and_value(uint64_t number)
-{
-    try(of_number(KIND, number));
-    try(of_number(VALUE, number));
-}
-
-void group_monitors(void)
+/* In each situation all that can be asked for, and then each of the 65536 values. */
+static void in_each_situation(void (*ask_all)(void), void (*ask_of)(uint8_t *state, unsigned value))
 {
     uint8_t state[STATE_LEN];
     random_seed(options.seed);
@@ -27,19 +22,36 @@ void group_monitors(void)
         random_fill(state, STATE_LEN);
         set_situation(state, situation);
         begin(state);
-        for (uint64_t number = 0; number <= 16; number++)
-            kind_and_value(number);
-        for (unsigned value = 0; value <= 0xffff; value++) {
-            unsigned channel = value % 4, number[] = { 0, 1, 2 + channel, 6 + channel, 10 + channel };
-            for (size_t i = 0; i < COUNT(number); i++)
-                put_number(state + number_place(number[i]), value + 0x1111 * (unsigned)i);
-            begin(state);
-            for (size_t i = 0; i < COUNT(number); i++)
-                try(of_number(VALUE, number[i]));
-            if (value % 16 == 0)
-                try(of_number(KIND, number[value / 16 % COUNT(number)]));
-        }
+        ask_all();
+        for (unsigned value = 0; value <= 0xffff; value++)
+            ask_of(state, value);
     }
+}
+
+/* Every monitor, also those that there aren't. */
+static void all_monitors(void)
+{
+    for (uint64_t number = 0; number <= 16; number++) {
+        try(of_number(KIND, number));
+        try(of_number(VALUE, number));
+    }
+}
+
+static void monitors_of(uint8_t *state, unsigned value)
+{
+    unsigned channel = value % 4, number[] = { 0, 1, 2 + channel, 6 + channel, 10 + channel };
+    for (size_t i = 0; i < COUNT(number); i++)
+        put_number(state + number_place(number[i]), value + 0x1111 * (unsigned)i);
+    begin(state);
+    for (size_t i = 0; i < COUNT(number); i++)
+        try(of_number(VALUE, number[i]));
+    if (value % 16 == 0)
+        try(of_number(KIND, number[value / 16 % COUNT(number)]));
+}
+
+void group_monitors(void)
+{
+    in_each_situation(all_monitors, monitors_of);
 }
 
 /* Every quantity and limit, also those that there aren't. */
@@ -52,22 +64,17 @@ static void all_limits(void)
     }
 }
 
+static void limits_of(uint8_t *state, unsigned value)
+{
+    unsigned which = value % 4;
+    for (unsigned quantity = 0; quantity < 5; quantity++)
+        put_number(state + limits_place(quantity) + 2 * which, value ^ quantity << 5);
+    begin(state);
+    for (unsigned quantity = 0; quantity < 5; quantity++)
+        try(a_limit(quantity, which));
+}
+
 void group_limits(void)
 {
-    uint8_t state[STATE_LEN];
-    random_seed(options.seed);
-    for (unsigned situation = 0; situation < SITUATIONS; situation++) {
-        random_fill(state, STATE_LEN);
-        set_situation(state, situation);
-        begin(state);
-        all_limits();
-        for (unsigned value = 0; value <= 0xffff; value++) {
-            unsigned which = value % 4;
-            for (unsigned quantity = 0; quantity < 5; quantity++)
-                put_number(state + limits_place(quantity) + 2 * which, value ^ quantity << 5);
-            begin(state);
-            for (unsigned quantity = 0; quantity < 5; quantity++)
-                try(a_limit(quantity, which));
-        }
-    }
+    in_each_situation(all_limits, limits_of);
 }
