@@ -4,6 +4,7 @@
 #   compile WORDS ..          the C compiler for x86-64, which is what the library is compiled for
 #   compile_cpp WORDS ..      the C++ compiler for x86-64
 #   run PROGRAM WORDS ..      runs an x86-64 program: as it is, or on Arm under the toolchain's emulator
+#   emulator                  prints the path of that emulator; where `run` does not emulate, nothing
 #   EMULATED                  1 where `run` emulates, else empty
 #
 # `cc` and its packages are this machine's own compiler, for what is loaded into this machine's own programs.
@@ -34,6 +35,7 @@ x86_64)
     EMULATED=
     compile() { need gcc gcc libc6-dev && gcc "$@"; }
     compile_cpp() { need g++ g++ && g++ "$@"; }
+    emulator() { :; }
     run() { "$@"; }
     ;;
 aarch64)
@@ -43,11 +45,14 @@ aarch64)
     compile_cpp() {
         need x86_64-linux-gnu-g++ g++-x86-64-linux-gnu libc6-dev-amd64-cross && x86_64-linux-gnu-gcc -static "$@" -lstdc++
     }
-    run() {
-        local toolchain
+    emulator() {
         command -v rt >/dev/null || stop "rt, the Rattle toolchain's command, is not on the PATH"
-        toolchain=$(dirname -- "$(dirname -- "$(rt doc)")")
-        "$toolchain/on/aarch64/toolchain/bin/qemu-x86_64" "$@"
+        echo "$(dirname -- "$(dirname -- "$(rt doc)")")/on/aarch64/toolchain/bin/qemu-x86_64"
+    }
+    run() {
+        local emulator
+        emulator=$(emulator) || exit
+        "$emulator" "$@"
     }
     ;;
 *)

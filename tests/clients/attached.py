@@ -1,5 +1,8 @@
 #!/usr/bin/env python3
 """attached.py: runs a command with a module at hand, and ends with its exit status. Started by tests/clients/try."""
+import contextlib
+import fcntl
+import os
 import signal
 import subprocess
 import sys
@@ -9,27 +12,76 @@ from pathlib import Path
 from bench import Module
 from feed import sample
 
+USAGE = "usage: tests/clients/try [-s SAMPLE | -f STATE] COMMAND .., with a SAMPLE of 31 bytes in hex, a STATE of 688 bytes"
 
-def main(words):
-    fed = sample()
+
+@contextlib.contextmanager
+def fed(module, given):
+    """The factory image, and a sample."""
+    module.reset()
+    module.sample(given)
+    yield
+
+
+def replace(path, state):
+    """Writes the state beside the file, synced, with its rights and its owner, and renames it."""
+    old, beside = path.stat(), path.with_name(f"{path.name}.{os.getpid()}")
+    with open(beside, "wb") as file:
+        file.write(state)
+        file.flush()
+        with contextlib.suppress(PermissionError):
+            os.fchown(file.fileno(), old.st_uid, old.st_gid)
+        os.fchmod(file.fileno(), old.st_mode & 0o7777)
+        os.fsync(file.fileno())
+    beside.replace(path)
+
+
+@contextlib.contextmanager
+def lent(module, path):
+    """A state's file, with its folder locked, as the station's tool locks it; at the end it is replaced."""
+    path = path.resolve()
+    with contextlib.ExitStack() as held:
+        folder = os.open(path.parent, os.O_RDONLY)
+        held.callback(os.close, folder)
+        fcntl.flock(folder, fcntl.LOCK_EX)
+        module.lend(path.read_bytes())
+        yield
+        replace(path, module.look())
+
+
+def parsed(words):
+    """What the module begins with, and the command; or nothing."""
+    begins, given = fed, sample()
     if words[:1] == ["-s"] and len(words) > 1:
         try:
-            fed = bytes.fromhex(words[1])
+            given = bytes.fromhex(words[1])
         except ValueError:
-            fed = b""
+            given = b""
         words = words[2:]
-    if not words or words[0].startswith("-") or len(fed) != 31:
-        print("usage: tests/clients/try [-s SAMPLE] COMMAND .., with a SAMPLE of 31 bytes in hex", file=sys.stderr)
+    elif words[:1] == ["-f"] and len(words) > 1:
+        begins, given, words = lent, Path(words[1]), words[2:]
+    if not words or words[0].startswith("-") or (begins == fed and len(given) != 31):
+        return None
+    return begins, given, words
+
+
+def main(words):
+    asked = parsed(words)
+    if not asked:
+        print(USAGE, file=sys.stderr)
+        return 2
+    begins, given, words = asked
+    if begins == lent and not (given.is_file() and os.access(given, os.R_OK) and given.stat().st_size == 688):
+        print(f"try: {given} is no file of 688 bytes that can be read", file=sys.stderr)
         return 2
     signal.signal(signal.SIGTERM, lambda *_: sys.exit(2))  # so that the module and its folder go
     with tempfile.TemporaryDirectory(prefix="clients") as folder:
         module = Module(Path(folder) / "module")
         try:
-            module.reset()
-            module.sample(fed)
-            return subprocess.run(words, env=module.setting(), check=False).returncode
+            with begins(module, given):
+                return subprocess.run(words, env=module.setting(), check=False).returncode
         except OSError as error:
-            print(f"try: {words[0]}: {error.strerror}", file=sys.stderr)
+            print(f"try: {error.filename or words[0]}: {error.strerror}", file=sys.stderr)
             return 2
         finally:
             module.end()

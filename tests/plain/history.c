@@ -100,13 +100,10 @@ static uint8_t written(const struct plain *m, enum port port, unsigned place, si
         const struct call *c = &m->list[i];
         if (!in_run(c, address) || (address >= 128 && place != place_of(written(m, port, 127, c->previous), address)))
             continue;
-        uint8_t byte = c->bytes[address - c->address], bits = writable(place);
-        if (place == 127 && !supported(m->beginning, byte)) {
-            if (BROKEN(57))
-                continue;
-            byte = 0;
-        }
-        return (uint8_t)((begun & ~bits) | (byte & bits));
+        uint8_t byte = c->bytes[address - c->address];
+        if (BROKEN(57) && place == 127 && !supported(m->beginning, byte))
+            continue;
+        return written_over(m->beginning, place, begun, byte);
     }
     return begun;
 }

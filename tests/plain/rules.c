@@ -1,4 +1,4 @@
-/* rules.c: document 01's rules over bytes alone, in its order. See rules.h. */
+/* rules.c: the 688 bytes, the count, the reset and the samples, in document 01's order. See rules.h. */
 #include "rules.h"
 
 #include <string.h>
@@ -107,9 +107,8 @@ void reset_to(uint8_t *state, const uint8_t *image)
         {RECORD(OPERATOR), RECORD(RECORDER) + 23},
     };
 
-    for (unsigned place = 0; place < IMAGE_LEN; place++)
-        if (place < PAGE_02(128) || place > PAGE_02(255) || BROKEN(40))
-            state[place] = image[place];
+    memcpy(state, image, BROKEN(40) ? IMAGE_LEN : PAGE_02(128));
+    memcpy(state + PAGE_03(128), image + PAGE_03(128), PAGE_LEN);
     state[2] = (image[2] & (BROKEN(41) ? 0xff : 0x04)) | 0x01;
     for (size_t i = 0; i < sizeof zero / sizeof zero[0]; i++)
         memset(state + zero[i].first, 0, zero[i].last - zero[i].first + 1);
@@ -174,20 +173,4 @@ uint8_t conditions(const uint8_t *state, const uint8_t *sample, unsigned flag)
     if (quantity == TX_POWER && !tx_power_offered(state) && !BROKEN(44))
         return 0;
     return (uint8_t)(four(state, quantity, BROKEN(48) ? even : odd) << 4 | four(state, quantity, BROKEN(48) ? odd : even));
-}
-
-/* ---- Writing */
-
-uint8_t writable(unsigned place)
-{
-    static const struct { unsigned first, last; uint8_t bits; } rows[] = {
-        {86, 86, BROKEN(52) ? 0xff : 0x0f}, {87, 88, 0xff}, {98, 98, 0xff}, {93, 93, BROKEN(53) ? 0x0f : 0x07},
-        {100, 102, 0xff}, {103, 104, BROKEN(54) ? 0xff : 0xf0}, {127, 127, 0xff},
-        {PAGE_02(128), PAGE_02(255), 0xff}, {PAGE_03(BROKEN(55) ? 233 : 234), PAGE_03(247), 0xff},
-    };
-
-    for (size_t i = 0; i < sizeof rows / sizeof rows[0]; i++)
-        if (place >= rows[i].first && place <= rows[i].last)
-            return rows[i].bits;
-    return 0;
 }

@@ -1,6 +1,5 @@
-/* values.c: identity fields, monitors and limits: refusals in document 01's order, then the answer. See plain.h. */
-#include "history.h"
-#include "plain.h"
+/* values.c: identity fields, monitors and limits, of a page or of a state of 688 bytes: refusals in document 01's order, then the
+ * answer. See rules.h. */
 #include "rules.h"
 
 /* ---- Identity */
@@ -10,7 +9,7 @@ static bool sound_page(const uint8_t *page, size_t len)
     return (BROKEN(58) ? len >= PAGE_LEN : len == PAGE_LEN) && check_codes_right(page);
 }
 
-uint32_t plain_identity(const uint8_t *live, size_t live_len, const uint8_t *factory, size_t factory_len, uint64_t field)
+uint32_t identity_field(const uint8_t *live, size_t live_len, const uint8_t *factory, size_t factory_len, uint64_t field)
 {
     static const struct { unsigned first, last; } fields[7] = {
         [1] = {148, 163}, {165, 167}, {168, 183}, {184, 185}, {196, 211}, {212, 219},
@@ -54,63 +53,41 @@ static unsigned channel_of(uint64_t monitor)
     return monitor < 2 ? 0 : (unsigned)(monitor - 2) % 4;
 }
 
-static uint32_t monitor_refusal(const struct plain *m, uint64_t monitor, uint8_t *now)
+static bool no_such_monitor(uint64_t monitor)
 {
-    if (!work_out(m, now))
-        return 1;
-    if (monitor > (BROKEN(33) ? 12 : 13))
+    return monitor > (BROKEN(33) ? 12 : 13);
+}
+
+static bool measured(const uint8_t *state, uint64_t monitor)
+{
+    bool data_not_ready = (state[2] & 0x01) != 0 && !BROKEN(62);
+
+    return !data_not_ready && (quantity_of(monitor) != TX_POWER || tx_power_offered(state) || BROKEN(63));
+}
+
+uint32_t kind_of_monitor(const uint8_t *state, uint64_t monitor)
+{
+    if (no_such_monitor(monitor))
         return 13;
-    return 0;
+    return measured(state, monitor) ? UNITS[quantity_of(monitor)].kind << 8 : 0;
 }
 
-static bool measured(const uint8_t *now, uint64_t monitor)
+double value_of_monitor(const uint8_t *state, uint64_t monitor)
 {
-    bool data_not_ready = (now[2] & 0x01) != 0 && !BROKEN(62);
-
-    return !data_not_ready && (quantity_of(monitor) != TX_POWER || tx_power_offered(now) || BROKEN(63));
-}
-
-uint32_t plain_monitor_kind(const struct plain *m, uint64_t monitor)
-{
-    uint8_t now[STATE_LEN];
-    uint32_t refusal = monitor_refusal(m, monitor, now);
-
-    if (refusal)
-        return refusal;
-    return measured(now, monitor) ? UNITS[quantity_of(monitor)].kind << 8 : 0;
-}
-
-double plain_monitor_value(const struct plain *m, uint64_t monitor)
-{
-    uint8_t now[STATE_LEN];
-
-    if (monitor_refusal(m, monitor, now) || !measured(now, monitor))
+    if (no_such_monitor(monitor) || !measured(state, monitor))
         return 0.0;
-    return in_its_unit(quantity_of(monitor), now + QUANTITIES[quantity_of(monitor)].stored_at + 2 * channel_of(monitor));
+    return in_its_unit(quantity_of(monitor), state + QUANTITIES[quantity_of(monitor)].stored_at + 2 * channel_of(monitor));
 }
 
-static uint32_t limits_refusal(const struct plain *m, uint64_t quantity, uint8_t *now)
+uint32_t refusal_of_limits(uint64_t quantity)
 {
-    if (!work_out(m, now))
-        return 1;
-    if (quantity > (BROKEN(34) ? 3 : 4))
-        return 13;
-    return 0;
-}
-
-uint32_t plain_limits_refusal(const struct plain *m, uint64_t quantity)
-{
-    uint8_t now[STATE_LEN];
-
-    return limits_refusal(m, quantity, now);
+    return quantity > (BROKEN(34) ? 3 : 4) ? 13 : 0;
 }
 
 /* The limits are in the thresholds' order: high alarm 0, low alarm 1, high warning 2, low warning 3. */
-double plain_limit(const struct plain *m, uint64_t quantity, uint64_t which)
+double limit_of(const uint8_t *state, uint64_t quantity, uint64_t which)
 {
-    uint8_t now[STATE_LEN];
-
-    if (limits_refusal(m, quantity, now) || which > 3)
+    if (refusal_of_limits(quantity) || which > 3)
         return 0.0;
-    return in_its_unit((unsigned)quantity, now + QUANTITIES[quantity].limits_at + 2 * (BROKEN(64) ? 3 - which : which));
+    return in_its_unit((unsigned)quantity, state + QUANTITIES[quantity].limits_at + 2 * (BROKEN(64) ? 3 - which : which));
 }

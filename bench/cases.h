@@ -1,0 +1,37 @@
+/* cases.h: the calls that are measured, and what is lent to them. The engine is the one that the program is linked with. */
+#ifndef CASES_H
+#define CASES_H
+
+#include "../include/zikhrodan.h"
+
+#include <stdbool.h>
+
+enum call { RESET, SAMPLE, READ, WRITE, IDENTITY, KIND, VALUE, LIMITS, LIMIT };
+
+struct one_call {
+    const char *name;
+    enum call call;
+    uint8_t page;                   /* that both ports have selected */
+    unsigned unsound;               /* identity: 1 the live page, 2 both */
+    uint64_t port, address, count;  /* of a read or a write */
+    uint64_t number;                /* a field, monitor or quantity */
+    const uint8_t *sample;
+    unsigned refusal;               /* that the call has to give */
+};
+
+enum { RECORDS_AT = ZIKHRODAN_IMAGE_LEN, RECORDS_LEN = ZIKHRODAN_STATE_LEN - ZIKHRODAN_IMAGE_LEN };
+
+/* What is lent; the records as they stand before each call. */
+extern uint8_t state[ZIKHRODAN_STATE_LEN], image[ZIKHRODAN_IMAGE_LEN], out[ZIKHRODAN_READ_MAX], records[RECORDS_LEN];
+
+extern const struct one_call cases[];
+extern const unsigned many_cases;
+
+/* Puts what is lent into the case's state: reset to the factory image; where the case itself takes no sample, one of all FFh, so
+ * that both ports have flags up; the page selected for both. False if the engine refuses any of it. */
+bool set_up(const struct one_call *c);
+
+/* The case's one call: its answer, or the bits of its number. */
+uint64_t make(const struct one_call *c);
+
+#endif

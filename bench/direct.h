@@ -1,0 +1,18 @@
+/* direct.h: a plain C engine, to measure the library beside: the nine functions of zikhrodan.h with the prefix direct_. That
+ * header itself declares them, under these names, so a source has one engine or the other. */
+#ifndef DIRECT_H
+#define DIRECT_H
+
+#define zikhrodan_reset direct_reset
+#define zikhrodan_sample direct_sample
+#define zikhrodan_read direct_read
+#define zikhrodan_write direct_write
+#define zikhrodan_identity direct_identity
+#define zikhrodan_monitor_kind direct_monitor_kind
+#define zikhrodan_monitor_value direct_monitor_value
+#define zikhrodan_limits_refusal direct_limits_refusal
+#define zikhrodan_limit direct_limit
+
+#include "../include/zikhrodan.h"
+
+#endif

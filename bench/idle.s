@@ -1,0 +1,16 @@
+# idle.s: the nine functions of zikhrodan.h, each of which only returns: one instruction. What a program linked with them takes is
+# what every engine's program takes besides its engine.
+        .globl  zikhrodan_reset, zikhrodan_sample, zikhrodan_read, zikhrodan_write, zikhrodan_identity
+        .globl  zikhrodan_monitor_kind, zikhrodan_monitor_value, zikhrodan_limits_refusal, zikhrodan_limit
+        .text
+zikhrodan_reset:
+zikhrodan_sample:
+zikhrodan_read:
+zikhrodan_write:
+zikhrodan_identity:
+zikhrodan_monitor_kind:
+zikhrodan_monitor_value:
+zikhrodan_limits_refusal:
+zikhrodan_limit:
+        ret
+        .section .note.GNU-stack, "", @progbits

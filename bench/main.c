@@ -1,0 +1,131 @@
+/* main: makes a case's call many times, by the engine that it is linked with. See cases.h.
+ *
+ *   PROGRAM list                         the names of the cases
+ *   PROGRAM make CASE REPEATS [COUNT]    makes the calls and prints nothing
+ *   PROGRAM show CASE REPEATS [COUNT]    makes them, and prints the last answer, the state and the output memory
+ *   PROGRAM time CASE                    nanoseconds of one call, with the loop around it, of 20 ms or more of them
+ *
+ * COUNT is the length of the read or write in place of the case's own. Each call finds the same records, so that a read finds the
+ * flags up that the read before it cleared. Exit status 1 if a call does not answer as its case says, 2 if it cannot be made. */
+#include "cases.h"
+
+#include <inttypes.h>
+#include <stdio.h>
+#include <stdlib.h>
+#include <string.h>
+#include <time.h>
+
+static volatile uint64_t answer;
+
+static _Noreturn void stop(int status, const char *what, const char *name)
+{
+    fprintf(stderr, "bench: %s: %s\n", name, what);
+    exit(status);
+}
+
+static void repeat(const struct one_call *c, uint64_t repeats)
+{
+    for (; repeats; repeats--) {
+        memcpy(state + RECORDS_AT, records, RECORDS_LEN);
+        answer = make(c);
+    }
+}
+
+/* ---- show */
+
+static void print_bytes(const char *name, const uint8_t *bytes, size_t len)
+{
+    printf("%s ", name);
+    for (size_t i = 0; i < len; i++)
+        printf("%02x", bytes[i]);
+    putchar('\n');
+}
+
+static void show(const struct one_call *c)
+{
+    bool is_number = c->call == VALUE || c->call == LIMIT;
+
+    if (!is_number && zikhrodan_refusal_of((uint32_t)answer) != c->refusal)
+        stop(1, "it does not give the refusal that its case says", c->name);
+    printf("answer %016" PRIx64 "\n", answer);
+    print_bytes("state", state, sizeof state);
+    print_bytes("out", out, sizeof out);
+}
+
+/* ---- time */
+
+static double nanoseconds(const struct one_call *c, uint64_t repeats)
+{
+    struct timespec first, last;
+
+    clock_gettime(CLOCK_MONOTONIC, &first);
+    repeat(c, repeats);
+    clock_gettime(CLOCK_MONOTONIC, &last);
+    return (double)(last.tv_sec - first.tv_sec) * 1e9 + (double)(last.tv_nsec - first.tv_nsec);
+}
+
+static void measure(const struct one_call *c)
+{
+    uint64_t repeats = 10000;
+    double taken = nanoseconds(c, repeats);
+
+    while (taken < 20e6) {
+        repeats *= 2;
+        taken = nanoseconds(c, repeats);
+    }
+    printf("%.2f\n", taken / (double)repeats);
+}
+
+/* ---- words */
+
+static uint64_t number(const char *word)
+{
+    char *end;
+    unsigned long value = strtoul(word, &end, 10);
+
+    if (*word < '0' || *word > '9' || *end)
+        stop(2, "not a number", word);
+    return value;
+}
+
+static struct one_call find(const char *name)
+{
+    for (unsigned i = 0; i < many_cases; i++)
+        if (!strcmp(name, cases[i].name))
+            return cases[i];
+    stop(2, "no such case", name);
+}
+
+static void list(void)
+{
+    for (unsigned i = 0; i < many_cases; i++)
+        puts(cases[i].name);
+}
+
+int main(int count, char **words)
+{
+    if (count == 2 && !strcmp(words[1], "list")) {
+        list();
+        return 0;
+    }
+    bool timed = count == 3 && !strcmp(words[1], "time"), shown = count >= 4 && !strcmp(words[1], "show");
+    bool made = count >= 4 && !strcmp(words[1], "make");
+    if (count > 5 || !(timed || shown || made))
+        stop(2, "list | make CASE REPEATS [COUNT] | show CASE REPEATS [COUNT] | time CASE", "usage");
+
+    struct one_call c = find(words[2]);
+    if (count == 5)
+        c.count = number(words[4]);
+    if (c.count > ZIKHRODAN_READ_MAX || (c.call == WRITE && c.count > ZIKHRODAN_WRITE_MAX))
+        stop(2, "more bytes than are lent", words[4]);
+    if (!set_up(&c) && shown)
+        stop(1, "it cannot be set up", c.name);
+    if (timed) {
+        measure(&c);
+        return 0;
+    }
+    repeat(&c, number(words[3]));
+    if (shown)
+        show(&c);
+    return 0;
+}

@@ -1,0 +1,186 @@
+/* demo.c: zikhrodan demo: a module, a day of samples, and two readers. What it shows of the module is what the calls say. */
+#include "ask.h"
+#include "command.h"
+#include "day.h"
+#include "factory.h"
+#include "files.h"
+#include "words.h"
+
+#include <errno.h>
+#include <limits.h>
+#include <stdio.h>
+#include <string.h>
+#include <sys/stat.h>
+
+enum { OPERATOR_READS = 18 * 60 };
+
+struct demo {
+    struct state state;
+    unsigned counts[PORTS];             /* operator's and recorder's, as the calls report them */
+    uint8_t read[PORTS][FLAG_BYTES];    /* what each read of bytes 3 to 14 */
+    unsigned died;                      /* the minute in which both interrupts came */
+};
+
+static void print_interrupt(unsigned count, int width)
+{
+    printf("%s%-*s%s", paint(count ? BAD : PLAIN), width, count ? "INTERRUPT" : "no interrupt", paint(PLAIN));
+}
+
+static void event(const struct demo *demo, unsigned minute, const char *what)
+{
+    printf("  %02u:%02u  %-44s", minute / 60, minute % 60, what);
+    print_interrupt(demo->counts[0], 14);
+    print_interrupt(demo->counts[1], 0);
+    putchar('\n');
+}
+
+static void begin(struct demo *demo)
+{
+    char field[2][ZIKHRODAN_PAGE_LEN + 1] = {{0}};
+    const uint8_t *page = FACTORY_IMAGE + ZIKHRODAN_PAGE_00_AT;
+
+    demo->state = (struct state){.len = ZIKHRODAN_STATE_LEN};
+    zikhrodan_reset(demo->state.bytes, demo->state.len, FACTORY_IMAGE, sizeof FACTORY_IMAGE);
+    for (unsigned i = 0; i < 2; i++) {
+        uint32_t at = zikhrodan_identity(demo->state.bytes + ZIKHRODAN_PAGE_00_AT, ZIKHRODAN_PAGE_LEN, page, ZIKHRODAN_PAGE_LEN,
+                                         i ? ZIKHRODAN_PART_NUMBER : ZIKHRODAN_VENDOR_NAME);
+        memcpy(field[i], demo->state.bytes + ZIKHRODAN_PAGE_00_AT + zikhrodan_identity_start(at), zikhrodan_identity_length(at));
+    }
+    printf("An optical module at a shore station, %s %s, has two\n"
+           "management ports: the operator's, and the recorder's, which the fisheries\n"
+           "regulator has sealed. A day of samples, one a minute:\n\n"
+           "%-53soperator      recorder\n",
+           field[0], field[1], "");
+}
+
+/* Reads bytes 3 to 14 as a port does, which clears them for that port. */
+static void read_flags(struct demo *demo, uint64_t port, unsigned minute)
+{
+    unsigned i = (unsigned)port - ZIKHRODAN_OPERATOR;
+    char what[NAME_ROOM];
+
+    uint32_t answer = zikhrodan_read(demo->state.bytes, demo->state.len, port, FLAGS_AT, FLAG_BYTES, demo->read[i], FLAG_BYTES);
+    demo->counts[i] = zikhrodan_count(answer);
+    snprintf(what, sizeof what, "the %s reads its flags", port_name(port));
+    event(demo, minute, what);
+}
+
+/* Feeds a minute's sample, and says when a line's light went or came back by the library's monitors. */
+static void minute_passes(struct demo *demo, unsigned minute)
+{
+    struct state *state = &demo->state;
+    uint8_t sample[ZIKHRODAN_SAMPLE_LEN];
+    unsigned calm = demo->counts[0] + demo->counts[1] == 0;
+    double light[4];
+    char what[64];
+
+    for (unsigned line = 0; line < 4; line++)
+        light[line] = zikhrodan_monitor_value(state->bytes, state->len, ZIKHRODAN_RX_POWER_1 + line);
+    day_sample(minute, sample);
+    uint32_t answer = zikhrodan_sample(state->bytes, state->len, sample, sizeof sample);
+    demo->counts[0] = zikhrodan_operator_count(answer);
+    demo->counts[1] = zikhrodan_recorder_count(answer);
+    if (calm && demo->counts[0] && demo->counts[1])
+        demo->died = minute;
+    if (minute == 0)
+        event(demo, minute, "the first sample: all four lines are lit");
+    for (unsigned line = 0; line < 4 && minute > 0; line++) {
+        double now = zikhrodan_monitor_value(state->bytes, state->len, ZIKHRODAN_RX_POWER_1 + line);
+        if ((light[line] == 0.0) == (now == 0.0))
+            continue;
+        snprintf(what, sizeof what, "line Rx%u %s (%.4f to %.4f mW)", line + 1, now == 0.0 ? "goes dark" : "is lit again",
+                 light[line], now);
+        event(demo, minute, what);
+    }
+}
+
+static int compare(const struct demo *demo)
+{
+    char name[NAME_ROOM];
+
+    printf("\nWhat each of them read:%-30soperator      recorder\n", "");
+    for (unsigned i = 0; i < 8 * FLAG_BYTES; i++) {
+        unsigned byte = FLAGS_AT + i / 8, bit = 7 - i % 8;
+        bool mine = bit_of(demo->read[0], byte, bit), its = bit_of(demo->read[1], byte, bit);
+        if (mine || its)
+            printf("  %-51s%-14s%s\n", flag_name(byte, bit, name, sizeof name), mine ? "raised" : "-", its ? "raised" : "-");
+    }
+    if (memcmp(demo->read[0], demo->read[1], FLAG_BYTES) != 0)
+        return fail("the two were not told the same, and should have been");
+    printf("\n%sThe line died at %02u:%02u%s, in sample %u of %u. The operator read first,\n"
+           "six hours before the recorder, and both were told the same: a read clears a\n"
+           "flag for the port that reads, and for no other. In the old firmware the first\n"
+           "reader cleared it for both, and the recorder would have been told nothing.\n"
+           "That this cannot happen is proved: docs/EXAMINER.md.\n",
+           paint(STRONG), demo->died / 60, demo->died % 60, paint(PLAIN), demo->died + 1, (unsigned)DAY_MINUTES);
+    return DONE;
+}
+
+/* A file of the folder: made, or first looked for, which is an error: nothing that is there is replaced. */
+static int keep_file(const char *folder, const char *file, const uint8_t *bytes, size_t len, bool look)
+{
+    char name[PATH_MAX];
+
+    if (snprintf(name, sizeof name, "%s/%s", folder, file) >= (int)sizeof name)
+        return fail("%s: the name is too long", folder);
+    if (look)
+        return lstat(name, &(struct stat){0}) == 0 ? fail("%s is there already, and is not replaced", name) : DONE;
+    return replace(name, name, bytes, len);
+}
+
+/* Leaves the image, the day's rows, and a module that is reset to the image, to try the other commands on. */
+static int keep(const char *folder)
+{
+    static uint8_t rows[DAY_MINUTES][ZIKHRODAN_SAMPLE_LEN];
+    struct state state = {.len = ZIKHRODAN_STATE_LEN};
+    int status = DONE;
+
+    if (mkdir(folder, 0777) != 0 && errno != EEXIST)
+        return fail_errno(folder);
+    zikhrodan_reset(state.bytes, state.len, FACTORY_IMAGE, sizeof FACTORY_IMAGE);
+    for (unsigned minute = 0; minute < DAY_MINUTES; minute++)
+        day_sample(minute, rows[minute]);
+    for (int look = 1; look >= 0 && status == DONE; look--)
+        if ((status = keep_file(folder, "factory.image", FACTORY_IMAGE, sizeof FACTORY_IMAGE, look)) == DONE &&
+            (status = keep_file(folder, "day.rows", rows[0], sizeof rows, look)) == DONE)
+            status = keep_file(folder, "module.state", state.bytes, state.len, look);
+    if (status == DONE)
+        printf("\nKept in %s: factory.image, day.rows, and module.state, a module that is\n"
+               "reset and has been fed nothing yet.\n",
+               folder);
+    return status;
+}
+
+static int demo(int given, char **words)
+{
+    const char *folder = NULL;
+    const struct option options[] = {{.name = "--keep", .value = &folder}, {0}};
+    static struct demo demo;
+
+    if (!words_in(&given, words, options, 0, 0))
+        return USAGE_OR_FILE;
+    begin(&demo);
+    for (unsigned minute = 0; minute < DAY_MINUTES; minute++) {
+        minute_passes(&demo, minute);
+        if (minute == OPERATOR_READS)
+            read_flags(&demo, ZIKHRODAN_OPERATOR, minute);
+    }
+    read_flags(&demo, ZIKHRODAN_RECORDER, DAY_MINUTES);
+    int status = compare(&demo);
+    return status == DONE && folder ? keep(folder) : status;
+}
+
+const struct command DEMO = {
+    .name = "demo",
+    .usage = "[--keep FOLDER]",
+    .brief = "shows the whole in a minute",
+    .help = "Resets a module to the built-in factory image and plays a built-in day of\n"
+            "samples in which a line goes dark for a while. The operator reads first, the\n"
+            "recorder after; what each saw is shown side by side.\n\n"
+            "  --keep FOLDER    leaves the image, the day's rows and the module, freshly\n"
+            "                   reset, in FOLDER, to try the other commands on",
+    .examples = "    $ zikhrodan demo --keep another | tail -n 2\n"
+                "    Kept in another: factory.image, day.rows, and module.state, a module that is\n"
+                "    reset and has been fed nothing yet.\n",
+    .run = demo,
+};

@@ -1,0 +1,85 @@
+/* main.c: the station's tool: finds the command and runs it. The library decides what the calls do; the tool asks and prints. */
+#include "command.h"
+
+#include <fcntl.h>
+#include <signal.h>
+#include <stdbool.h>
+#include <stdio.h>
+#include <stdlib.h>
+#include <string.h>
+
+static const struct command *const COMMANDS[] = {&DEMO, &RESET, &SAMPLE, &READ, &WRITE, &SHOW, &WATCH};
+enum { COUNT = sizeof COMMANDS / sizeof COMMANDS[0] };
+
+static void help(void)
+{
+    puts("zikhrodan: an optical module with two management ports, at a shore station. The\n"
+         "proved library decides; this tool asks and prints.\n");
+    for (int i = 0; i < COUNT; i++)
+        printf("  %-7s%-33s %s\n", COMMANDS[i]->name, COMMANDS[i]->usage, COMMANDS[i]->brief);
+    puts("\n"
+         "STATE is a file of 688 bytes, a module's memory; PORT is operator (1) or\n"
+         "recorder (2); numbers are decimal, or hex after 0x. An image or rows in a file\n"
+         "whose name ends in .hex are text: two hex digits for each byte.\n"
+         "Exit status: 0 done; 1 refused by the library, with the refusal's number; 2\n"
+         "usage or file. `zikhrodan COMMAND --help` has examples.\n\n"
+         "Start with: zikhrodan demo");
+}
+
+static void help_of(const struct command *command)
+{
+    printf("usage: zikhrodan %s%s%s\n\n%s\n\nExamples, after `zikhrodan demo --keep trial`:\n\n%s", command->name,
+           command->usage[0] ? " " : "", command->usage, command->help, command->examples);
+}
+
+static const struct command *named(const char *name)
+{
+    for (int i = 0; i < COUNT; i++)
+        if (strcmp(COMMANDS[i]->name, name) == 0)
+            return COMMANDS[i];
+    return NULL;
+}
+
+/* "--help" or "-h" among the words, before any "--". */
+static bool wants_help(int given, char **words)
+{
+    for (int i = 0; i < given && strcmp(words[i], "--") != 0; i++)
+        if (strcmp(words[i], "--help") == 0 || strcmp(words[i], "-h") == 0)
+            return true;
+    return false;
+}
+
+/* A standard stream that is closed is held by what can't be used as such, so that no file of the tool's gets its number. */
+static void hold_streams(void)
+{
+    static const int unusable[] = {O_WRONLY, O_RDONLY, O_RDONLY};
+
+    for (int fd = 0; fd < 3; fd++)
+        if (fcntl(fd, F_GETFD) < 0 && open("/dev/null", unusable[fd]) != fd)
+            exit(USAGE_OR_FILE);
+}
+
+int main(int argc, char **argv)
+{
+    hold_streams();
+    /* What cannot be written is an error that is said, not a signal that ends the tool. */
+    signal(SIGPIPE, SIG_IGN);
+    signal(SIGXFSZ, SIG_IGN);
+    setvbuf(stdout, NULL, _IOFBF, 1 << 16);
+    if (argc < 2)
+        return fail("which command? `zikhrodan --help` lists them; start with `zikhrodan demo`");
+    bool asked = wants_help(1, argv + 1) || strcmp(argv[1], "help") == 0;
+    if (asked && argc == 2) {
+        help();
+        return finished(DONE);
+    }
+    const char *name = argv[asked ? 2 : 1];
+    const struct command *command = named(name);
+    if (!command)
+        return fail("there is no command '%s'; `zikhrodan --help` lists them", name);
+    if (asked || wants_help(argc - 2, argv + 2)) {
+        help_of(command);
+        return finished(DONE);
+    }
+    return finished(command->run(argc - 2, argv + 2));
+}

@@ -1,0 +1,34 @@
+/* names.h: names for printing: of flags, monitors, quantities, limits, pages. Document 01's words; those of the 24 status flags
+ * are document 000's, which 01 takes them from. */
+#ifndef NAMES_H
+#define NAMES_H
+
+#include <stddef.h>
+
+/* The flag bytes are lower 3 to 14, in twelve; their bits are numbered as the document does, 7 to 0. */
+enum { FLAGS_AT = 3, FLAG_BYTES = 12, MONITORS = 14, QUANTITIES = 5, LIMITS = 4, PAGES = 4, PORTS = 2 };
+
+/* What a bit of a flag byte (3 to 14) is a flag of. */
+struct flag {
+    const char *of;    /* such as "Rx loss of signal" or "Rx power"; null where the bit is no flag */
+    const char *key;   /* ethtool's name for it in JSON, without the limit's */
+    int limit;         /* which of the four limits, in zikhrodan.h's numbers; -1 for a status flag */
+    unsigned channel;  /* 1 to 4; 0 where there are no channels */
+    unsigned monitor;  /* the monitor of its number; MONITORS for a status flag */
+};
+struct flag flag_at(unsigned byte, unsigned bit);
+
+/* Its name, such as "Rx3 loss of signal" or "Rx power 3 low alarm", in `room` bytes; gives `name`. */
+char *flag_name(unsigned byte, unsigned bit, char *name, size_t room);
+enum { NAME_ROOM = 40 };
+
+/* Such as "Rx power 3": a monitor's, 0 to 13. */
+char *monitor_name(unsigned monitor, char *name, size_t room);
+unsigned quantity_of(unsigned monitor);
+
+extern const char *const LIMIT_NAMES[LIMITS];
+extern const char *const UNIT_NAMES[];    /* by zikhrodan.h's kinds */
+extern const char *const PAGE_TITLES[PAGES];
+extern const char *const FIELD_NAMES[7];  /* identity's, from 1 */
+
+#endif

@@ -1,0 +1,37 @@
+/* rows.h: samples, one after the other, from files or standard input: rows of 31 bytes, or, in a ".hex", the same as text.
+ *
+ * What is left at the end of a file, if less than a row, is handed out as it is: the library refuses it by its length. */
+#ifndef ROWS_H
+#define ROWS_H
+
+#include "files.h"
+
+#include <stdint.h>
+#include <zikhrodan.h>
+
+struct rows {
+    char **names; /* files, "-" for standard input */
+    int left;     /* names not begun */
+    const char *name;
+    uint64_t row; /* the row last handed out, of its file, from 1 */
+    int fd;       /* -1 where no file is open */
+    bool ended;   /* the file has no more bytes than are here */
+    bool broken;  /* what comes after cannot be read, for what `why`, an errno, says; 0: it is text that is no hex */
+    int why;
+    struct hex hex;
+    size_t at, len; /* what of the bytes is not handed out yet */
+    uint8_t bytes[2048 * ZIKHRODAN_SAMPLE_LEN];
+};
+
+/* Rows from these files; from standard input where there are none. Gives 0, or an exit status with the error said. */
+int rows_begin(struct rows *rows, char **names, int count);
+
+/* The next row, waiting for it: 1; at the end 0; -1 with the error said. The bytes stay until the next call. */
+int rows_next(struct rows *rows, const uint8_t **row, size_t *len);
+
+/* Whether a next row of the same file is there, without waiting. */
+bool rows_ready(struct rows *rows);
+
+void rows_end(struct rows *rows);
+
+#endif

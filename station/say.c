@@ -1,0 +1,104 @@
+/* say.c: see say.h. */
+#include "say.h"
+#include "words.h"
+
+#include <errno.h>
+#include <inttypes.h>
+#include <stdarg.h>
+#include <stdbool.h>
+#include <stdio.h>
+#include <stdlib.h>
+#include <string.h>
+#include <unistd.h>
+#include <zikhrodan.h>
+
+/* How wide the line is that stands on the terminal to be written over; 0 where none does. */
+static int passing;
+
+void pass_by(uint64_t number, const char *what)
+{
+    if (isatty(STDERR_FILENO))
+        passing = fprintf(stderr, "\r%" PRIu64 " %s", number, what);
+}
+
+void wipe(void)
+{
+    if (passing > 0)
+        fprintf(stderr, "\r%*s\r", passing, "");
+    passing = 0;
+}
+
+/* The beginning of a line of error, after all that was printed before. */
+static void begin_error(const char *format, va_list words)
+{
+    wipe();
+    fflush(stdout);
+    fputs("zikhrodan: ", stderr);
+    vfprintf(stderr, format, words);
+}
+
+int fail(const char *format, ...)
+{
+    va_list words;
+
+    va_start(words, format);
+    begin_error(format, words);
+    va_end(words);
+    fputc('\n', stderr);
+    return USAGE_OR_FILE;
+}
+
+int fail_errno(const char *name)
+{
+    return fail("%s: %s", name, strerror(errno));
+}
+
+int refused(uint32_t refusal, const char *of, ...)
+{
+    va_list words;
+
+    va_start(words, of);
+    begin_error(of, words);
+    va_end(words);
+    fprintf(stderr, ": refused %u, %s\n", refusal, zikhrodan_words(refusal));
+    return REFUSED;
+}
+
+int finished(int status)
+{
+    static bool said;
+
+    if (said || (fflush(stdout) == 0 && !ferror(stdout)))
+        return status;
+    said = true;
+    return fail_errno("standard output");
+}
+
+const char *paint(enum colour colour)
+{
+    static const char *const codes[] = {
+        [PLAIN] = "\33[0m", [BAD] = "\33[31m", [GOOD] = "\33[32m", [FAINT] = "\33[2m", [STRONG] = "\33[1m",
+    };
+    static int colours = -1;
+    const char *terminal = getenv("TERM");
+
+    if (colours < 0)
+        colours = isatty(STDOUT_FILENO) && !getenv("NO_COLOR") && !(terminal && strcmp(terminal, "dumb") == 0);
+    return colours ? codes[colour] : "";
+}
+
+const char *plural(uint64_t number)
+{
+    return number == 1 ? "" : "s";
+}
+
+void say_refusal(uint32_t refusal)
+{
+    printf("%srefused %u, %s%s\n", paint(BAD), refusal, zikhrodan_words(refusal), paint(PLAIN));
+}
+
+void say_count(uint64_t port, unsigned count)
+{
+    printf("%s%s%s: %u flag%s let through, %s%s%s", paint(STRONG), port_name(port), paint(PLAIN), count, plural(count),
+           paint(count ? BAD : PLAIN), count ? "interrupt" : "no interrupt", paint(PLAIN));
+}

@@ -1,0 +1,161 @@
+/* state.c: see state.h. */
+#include "state.h"
+#include "factory.h"
+#include "files.h"
+#include "say.h"
+
+#include <errno.h>
+#include <stdbool.h>
+#include <stdio.h>
+#include <stdlib.h>
+#include <string.h>
+#include <sys/file.h>
+#include <sys/stat.h>
+#include <unistd.h>
+
+/* Waits for the lock of a folder, and says so to a person; -1 with errno set. */
+static int lock(int folder, const char *name)
+{
+    if (flock(folder, LOCK_EX | LOCK_NB) == 0)
+        return 0;
+    if (errno == EWOULDBLOCK && isatty(STDERR_FILENO))
+        fprintf(stderr, "zikhrodan: %s: waiting for another command in its folder\n", name);
+    int locked;
+    do
+        locked = flock(folder, LOCK_EX);
+    while (locked != 0 && errno == EINTR);
+    return locked;
+}
+
+/* The folder that is locked is still the one that the path leads to. */
+static bool is_folder_of(int folder, const char *path)
+{
+    struct stat locked, now;
+    int again = folder_of(path);
+    bool same = again >= 0 && fstat(folder, &locked) == 0 && fstat(again, &now) == 0 && locked.st_dev == now.st_dev &&
+                locked.st_ino == now.st_ino;
+
+    if (again >= 0)
+        close(again);
+    return same;
+}
+
+/* The folder of a path, locked; -1 with errno set. */
+static int lock_folder(const char *path, const char *name)
+{
+    for (;;) {
+        int folder = folder_of(path);
+        if (folder < 0)
+            return -1;
+        int locked = lock(folder, name);
+        if (locked == 0 && is_folder_of(folder, path))
+            return folder;
+        int why = errno;
+        close(folder);
+        if (locked != 0) {
+            errno = why;
+            return -1;
+        }
+    }
+}
+
+/* A path with links resolved, of a file that need not be there; null with errno set. */
+static char *resolved(const char *name, enum if_missing missing)
+{
+    char *path = realpath(name, NULL), *folder, *whole = NULL;
+    if (path || errno != ENOENT || missing == IS_ERROR)
+        return path;
+
+    struct stat link;
+    const char *slash = strrchr(name, '/'), *last = slash ? slash + 1 : name;
+    if (*last == '\0' || lstat(name, &link) == 0) {
+        errno = ENOENT;
+        return NULL;
+    }
+    char *front = slash ? strndup(name, (size_t)(slash - name) + 1) : strdup(".");
+    folder = front ? realpath(front, NULL) : NULL;
+    free(front);
+    if (folder && (whole = malloc(strlen(folder) + strlen(last) + 2)))
+        strcat(strcat(strcpy(whole, folder), "/"), last);
+    free(folder);
+    return whole;
+}
+
+/* A regular file, so that a rename replaces no device or pipe; also one that is not there. */
+static int regular(const char *path, const char *name)
+{
+    struct stat is;
+
+    if (stat(path, &is) == 0 && !S_ISREG(is.st_mode))
+        return fail("%s: a state is a regular file", name);
+    return 0;
+}
+
+static int state_load(struct state *state, enum if_missing missing)
+{
+    struct stat is;
+    int status = regular(state->path, state->name);
+
+    if (status == 0 && missing == IS_ZEROS && stat(state->path, &is) != 0 && errno == ENOENT) {
+        memset(state->bytes, 0, sizeof state->bytes);
+        state->len = ZIKHRODAN_STATE_LEN;
+        return 0;
+    }
+    return status ? status : load(state->path, state->name, state->bytes, sizeof state->bytes, &state->len);
+}
+
+int state_open(struct state *state, const char *name, enum if_missing missing)
+{
+    state->name = name;
+    state->path = resolved(name, missing);
+    if (!state->path)
+        return fail_errno(name);
+    state->folder = lock_folder(state->path, name);
+    int status = state->folder < 0 ? fail_errno(name) : state_load(state, missing);
+    if (status != 0)
+        state_close(state);
+    return status;
+}
+
+int state_save(struct state *state)
+{
+    return replace(state->path, state->name, state->bytes, state->len);
+}
+
+void state_close(struct state *state)
+{
+    free(state->path);
+    if (state->folder >= 0)
+        close(state->folder);
+}
+
+int state_peek(struct state *state, const char *name)
+{
+    int status = regular(name, name);
+
+    return status ? status : load(name, name, state->bytes, sizeof state->bytes, &state->len);
+}
+
+int image_load(const char *name, uint8_t image[IMAGE_ROOM], size_t *len)
+{
+    static uint8_t text[1 << 20]; /* what fills it has more bytes than an image, or blanks without an end */
+    struct hex hex = {.high = -1};
+
+    if (!name) {
+        memcpy(image, FACTORY_IMAGE, sizeof FACTORY_IMAGE);
+        *len = sizeof FACTORY_IMAGE;
+        return 0;
+    }
+    if (!is_hex(name))
+        return load(name, name, image, IMAGE_ROOM, len);
+    int status = load(name, name, text, sizeof text, len);
+    if (status != 0)
+        return status;
+    bool whole = *len < sizeof text;
+    size_t made = from_hex(&hex, text, *len);
+    if (hex.bad || (whole && hex.high >= 0))
+        return fail(NO_HEX, name, hex.line + 1);
+    *len = whole && made < IMAGE_ROOM ? made : IMAGE_ROOM;
+    memcpy(image, text, *len);
+    return 0;
+}

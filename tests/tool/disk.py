@@ -1,0 +1,101 @@
+"""disk.py: a full disk, a folder that cannot be written, a file that cannot be read: one line, status 2, nothing changed."""
+import os
+import resource
+import shutil
+
+from bench import IMAGE
+from station import CHANGES, NOBODY, PROGRAM, Kept, zikhrodan
+
+SIZES = (0, 1, 31, 640, 687)
+
+
+def limited(size):
+    return {"preexec_fn": lambda: resource.setrlimit(resource.RLIMIT_FSIZE, (size, size))}
+
+
+def full(folder, checks):
+    for words, on_paper in CHANGES.items():
+        with checks.group(f"{words[0]}{' --raw' * ('--raw' in words)}: no file can have more than 0 to 687 bytes: one line, "
+                          "status 2, nothing is changed or left or said to be done") as group:
+            for size in SIZES:
+                kept = Kept(folder)
+                status, said, complaint = kept.run(*words, **limited(size))
+                group.same(f"{size} bytes", (2, "zikhrodan: module.state: File too large\n"), (status, complaint))
+                group.same(f"{size}: what is said", False, any(word in said for word in ("1 row", "2 rows", "is reset")) or
+                           (words[0] == "write" and "let through" in said))
+                group.same(f"{size}: the 688 bytes", True, kept.agrees())
+                group.same(f"{size}: other files", [], kept.others())
+            kept = Kept(folder)
+            on_paper(kept.paper)
+            group.same("688", (0, ""), kept.run(*words, **limited(688))[::2])
+            group.same("688: the 688 bytes", True, kept.agrees())
+    with checks.group("reset of a state that is not there, on a full disk: none is made") as group:
+        for size in SIZES:
+            seen = zikhrodan(folder, "reset", "new.state", **limited(size))
+            group.same(f"{size} bytes", (2, "", "zikhrodan: new.state: File too large\n"), seen)
+            group.same(f"{size}: files", False, any(name.startswith("new") for name in os.listdir(folder)))
+
+
+def full_for_demo(folder, checks):
+    with checks.group("demo --keep on a full disk: one line, status 2; each of the three files is whole, or not there") as group:
+        for size in SIZES + (688, 44639):
+            name, blocked = f"new{size}", "factory.image" if size < 640 else "day.rows"
+            status, _, complaint = zikhrodan(folder, "demo", "--keep", name, **limited(size))
+            group.same(name, (2, f"zikhrodan: {name}/{blocked}: File too large\n"), (status, complaint))
+            group.same(f"{size}: files", ["factory.image"] if size >= 640 else [], os.listdir(folder / name))
+            if size >= 640:
+                group.same(f"{size}: the image", IMAGE, (folder / name / "factory.image").read_bytes())
+
+
+def another(folder):
+    """As nobody where this is root, else as whoever this is; the tool from where that user can read it."""
+    program = folder / "tool"
+    shutil.copy(PROGRAM, program)
+    return {"program": program, **({"user": NOBODY, "group": NOBODY, "extra_groups": []} if os.geteuid() == 0 else {})}
+
+
+def rights(folder, checks):
+    user = another(folder)
+    place = folder / "closed"
+    with checks.group("a folder that cannot be written: one line, status 2, nothing is changed; a look is possible") as group:
+        for words in CHANGES:
+            kept = Kept(place)
+            place.chmod(0o555)
+            status, _, complaint = kept.run(*words, **user)
+            place.chmod(0o755)
+            group.same(words, (2, "zikhrodan: module.state: Permission denied\n"), (status, complaint))
+            group.same(f"{words}: the 688 bytes", True, kept.agrees())
+            group.same(f"{words}: other files", [], kept.others())
+        place.chmod(0o555)
+        group.same("a look", (0, ""), kept.run("sample", "/dev/null", **user)[::2])
+        seen = zikhrodan(place, "reset", "new.state", **user)
+        group.same("reset of a new one", (2, "", "zikhrodan: new.state: Permission denied\n"), seen)
+        status, _, complaint = zikhrodan(place, "demo", "--keep", "new", **user)
+        group.same("demo --keep", (2, "zikhrodan: new: Permission denied\n"), (status, complaint))
+        place.chmod(0o755)
+    with checks.group("a state, an image or rows that cannot be read: one line, status 2, nothing is changed") as group:
+        unread(group, folder / "open", user)
+
+
+def unread(group, place, user):
+    kept = Kept(place)
+    place.chmod(0o777)
+    kept.path.chmod(0o000)
+    for words in CHANGES:
+        group.same(words, (2, "", "zikhrodan: module.state: Permission denied\n"), kept.run(*words, **user))
+    kept.path.chmod(0o666)
+    (place / "closed.image").write_bytes(IMAGE)
+    (place / "closed.image").chmod(0o000)
+    (place / "loss.rows").chmod(0o000)
+    group.same("image", (2, "", "zikhrodan: closed.image: Permission denied\n"), kept.run("reset", "closed.image", **user))
+    group.same("rows", (2, "", "zikhrodan: loss.rows: Permission denied\n"), kept.run("sample", "loss.rows", **user))
+    group.same("the 688 bytes", True, kept.agrees())
+    group.same("other files", ["closed.image"], kept.others())
+    for name in ("closed.image", "loss.rows"):
+        (place / name).chmod(0o644)
+
+
+def run(folder, checks):
+    full(folder / "full", checks)
+    full_for_demo(folder, checks)
+    rights(folder, checks)

@@ -1,0 +1,118 @@
+"""pauses.py: rows that come with pauses: after each the state is saved, and others can have it while the next is waited for."""
+import select
+import subprocess
+import time
+
+from feed import sample
+from station import CALM, LOSS, PATIENCE, SECOND, Kept, start, waits
+
+ROWS = [sample(status=(1 << number, 0, 0), at0=0x1E00 + number) for number in range(6)]
+
+
+class Feeding:
+    """A command that waits for rows on a pipe."""
+
+    def __init__(self, kept, name, *before):
+        self.kept = kept
+        self.process = start(kept.folder, name, kept.path.name, *before, "-", stdin=subprocess.PIPE, bufsize=0)
+
+    def give(self, run):
+        self.process.stdin.write(run)
+
+    def line(self):
+        """The next line that it prints; "" if none comes, in patience."""
+        ready = select.select([self.process.stdout], [], [], 20 * SECOND)[0]
+        return self.process.stdout.readline().decode() if ready else ""
+
+    def end(self):
+        """Ends the input: the exit status, and what was printed and complained."""
+        out, err = self.process.communicate(timeout=PATIENCE)
+        return self.process.returncode, out.decode(), err.decode()
+
+
+def saved_each_time(folder, checks):
+    with checks.group("after each row of a pipe that pauses, the state is saved, and another command has it") as group:
+        kept = Kept(folder / "each")
+        feeding = Feeding(kept, "sample")
+        for number, row in enumerate(ROWS):
+            feeding.give(row)
+            kept.paper.sample(row)
+            counts = kept.paper.count(1), kept.paper.count(2)
+            group.same(f"row {number} is in the state", True, waits(kept.agrees))
+            seen = kept.run("read", ("operator", "recorder")[number % 2], 3, 1, "--raw", timeout=20 * SECOND)
+            group.same(f"read after row {number}", (0, kept.paper.read(1 + number % 2, 3, 1)[1].decode("latin-1")), seen[:2])
+            group.same(f"the 688 bytes after row {number}", True, kept.agrees())
+        told = "6 rows taken\n" + "".join(f"{port}: {count} flags let through, interrupt\n"
+                                          for port, count in zip(("operator", "recorder"), counts))
+        group.same("at the end", (0, told, ""), feeding.end())
+
+
+def halves(folder, checks):
+    with checks.group("a row in two halves is one row; while the second is waited for, the state is not locked") as group:
+        kept = Kept(folder / "halves")
+        feeding = Feeding(kept, "sample")
+        feeding.give(CALM + LOSS[:13])
+        kept.paper.sample(CALM)
+        group.same("the row before it is saved", True, waits(kept.agrees))
+        time.sleep(0.3 * SECOND)
+        group.same("a write", 0, kept.run("write", "recorder", 100, 7, timeout=20 * SECOND)[0])
+        kept.paper.write(2, 100, b"\x07")
+        group.same("the 688 bytes with half a row", True, kept.agrees())
+        feeding.give(LOSS[13:30])
+        time.sleep(0.1 * SECOND)
+        group.same("a read", 0, kept.run("read", "operator", 3, 12, timeout=20 * SECOND)[0])
+        kept.paper.read(1, 3, 12)
+        feeding.give(LOSS[30:])
+        kept.paper.sample(LOSS)
+        status, said, complaint = feeding.end()
+        group.same("at the end", (0, "2 rows taken\n", ""), (status, said[:13], complaint))
+        group.same("the 688 bytes", True, kept.agrees())
+
+
+def file_first(folder, checks):
+    with checks.group("after the rows of a file the state is saved, and others have it while a pipe is waited for") as group:
+        kept = Kept(folder / "first")
+        feeding = Feeding(kept, "sample", "calm.rows")
+        kept.paper.sample(CALM)
+        group.same("the file's rows are in the state", True, waits(kept.agrees))
+        group.same("a read", 0, kept.run("read", "operator", 3, 12, timeout=20 * SECOND)[0])
+        kept.paper.read(1, 3, 12)
+        feeding.give(LOSS)
+        kept.paper.sample(LOSS)
+        status, said, complaint = feeding.end()
+        group.same("at the end", (0, "2 rows taken\n", ""), (status, said[:13], complaint))
+        group.same("the 688 bytes", True, kept.agrees())
+
+
+def cut_off(folder, checks):
+    with checks.group("half a row at the end is refused by its length, and what came before it is kept") as group:
+        kept = Kept(folder / "cut")
+        feeding = Feeding(kept, "sample")
+        feeding.give(CALM)
+        kept.paper.sample(CALM)
+        group.same("the first", True, waits(kept.agrees))
+        feeding.give(LOSS[:30])
+        time.sleep(0.1 * SECOND)
+        status, said, complaint = feeding.end()
+        group.same("at the end", (1, "1 row taken\n", "zikhrodan: standard input: row 2: refused 8, the sample isn't 31 bytes\n"),
+                   (status, said[:12], complaint))
+        group.same("the 688 bytes", True, kept.agrees())
+
+
+def told_at_once(folder, checks):
+    with checks.group("watch tells of a row as soon as it is there, also into a pipe") as group:
+        kept = Kept(folder / "told")
+        feeding = Feeding(kept, "watch")
+        for number, row in enumerate((ROWS[0], ROWS[2], ROWS[3]), 1):
+            feeding.give(row)
+            for port in ("operator", "recorder"):
+                group.same(f"{port}, row {number}", True, feeding.line().startswith(f"standard input row {number}, {port}: "))
+        group.same("at the end", 0, feeding.end()[0])
+
+
+def run(folder, checks):
+    saved_each_time(folder, checks)
+    halves(folder, checks)
+    file_first(folder, checks)
+    cut_off(folder, checks)
+    told_at_once(folder, checks)

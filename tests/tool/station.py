@@ -1,0 +1,91 @@
+"""station.py: the tool as a process, and a state in a file beside the same module on paper; for what a transcript cannot show."""
+import os
+import subprocess
+import time
+
+from bench import IMAGE
+from feed import sample
+from paper import Paper
+from transcript import ROOT, environment
+
+EMULATED = bool(subprocess.run(["bash", "-c", '. tools/machine.sh; printf %s "$EMULATED"'], cwd=ROOT, capture_output=True,
+                               check=True).stdout)
+BY_RUN = ["bash", "-c", 'set -euo pipefail; . "$0"; run "$@"', str(ROOT / "tools" / "machine.sh")]
+PROGRAM = ROOT / "build" / "station"
+PATIENCE = 120
+SECOND = 5 if EMULATED else 1  # how long a second is, for what the tool is given to do in one
+NOBODY = 65534
+
+
+def command(*words, program=PROGRAM):
+    """The tool's command line, without the wrapper, which has built it."""
+    return (BY_RUN if EMULATED else []) + [str(program)] + [str(word) for word in words]
+
+
+def settled(folder, **how):
+    """How a process of the tool is started: in the folder, with no input, and with what it prints caught."""
+    return {"cwd": folder, "env": environment(folder), "stdin": subprocess.DEVNULL, "stdout": subprocess.PIPE,
+            "stderr": subprocess.PIPE, **how}
+
+
+def start(folder, *words, **how):
+    return subprocess.Popen(command(*words), start_new_session=True, **settled(folder, **how))
+
+
+def zikhrodan(folder, *words, program=PROGRAM, timeout=PATIENCE, **how):
+    """Runs the tool: its exit status, what it printed and what it complained, as text of single bytes."""
+    done = subprocess.run(command(*words, program=program), timeout=timeout, check=False, **settled(folder, **how))
+    return done.returncode, (done.stdout or b"").decode("latin-1"), (done.stderr or b"").decode("latin-1")
+
+
+def waits(holds):
+    """Whether something comes to hold, in patience."""
+    until = time.monotonic() + 20 * SECOND
+    while not holds() and time.monotonic() < until:
+        time.sleep(0.005)
+    return holds()
+
+
+LOSS = sample(status=(0x12, 0x34, 0x56), at2=250)  # eleven flags for each port
+CALM = sample()
+
+
+class Kept:
+    """A state in a file, and beside it the same module on paper. It is fed, so that there are flags to lose."""
+
+    def __init__(self, folder, name="module.state"):
+        self.folder, self.path, self.paper = folder, folder / name, Paper()
+        folder.mkdir(exist_ok=True)
+        (folder / "loss.rows").write_bytes(LOSS)
+        (folder / "calm.rows").write_bytes(CALM)
+        (folder / "both.rows").write_bytes(CALM + LOSS)
+        self.paper.reset(IMAGE)
+        self.paper.sample(LOSS)
+        self.put()
+
+    def put(self):
+        self.path.write_bytes(self.paper.state)
+
+    def agrees(self):
+        """The file is what is on paper."""
+        return self.path.read_bytes() == bytes(self.paper.state)
+
+    def others(self):
+        """What is in the folder beside the state and the files of rows."""
+        own = {self.path.name, "loss.rows", "calm.rows", "both.rows"}
+        return sorted(set(os.listdir(self.folder)) - own)
+
+    def run(self, *words, **how):
+        """Runs a command on the state: its name first, then the words after the state."""
+        return zikhrodan(self.folder, words[0], self.path.name, *words[1:], **how)
+
+
+# The commands that change a state, and the same on paper.
+CHANGES = {
+    ("reset",): lambda paper: paper.reset(IMAGE),
+    ("sample", "both.rows"): lambda paper: (paper.sample(CALM), paper.sample(LOSS)),
+    ("watch", "both.rows"): lambda paper: (paper.sample(CALM), paper.sample(LOSS)),
+    ("read", "operator", 3, 12): lambda paper: paper.read(1, 3, 12),
+    ("read", "recorder", 9, 1, "--raw"): lambda paper: paper.read(2, 9, 1),
+    ("write", "operator", 100, 255, 255): lambda paper: paper.write(1, 100, b"\xFF\xFF"),
+}

@@ -1,0 +1,48 @@
+#!/usr/bin/env python3
+"""tool.py: the station's tool, held to document 01, to its help and to the docs. Started by tests/tool/run.
+
+Prints a line for each check and 'N passed, M failed'; exit status 1 if M > 0.
+"""
+import signal
+import sys
+import tempfile
+from pathlib import Path
+
+import disk
+import examples
+import keys
+import kills
+import links
+import manual
+import outputs
+import pauses
+import rules
+import stored
+import synced
+import terminals
+import together
+from bench import Checks
+
+PARTS = {part.__name__: part for part in (rules, manual, stored, examples, keys, outputs, disk, synced, kills, together, pauses,
+                                           links, terminals)}
+
+
+def main(names):
+    unknown = [name for name in names if name not in PARTS]
+    if unknown:
+        print(f"tool: there is no part '{unknown[0]}': the parts are {', '.join(PARTS)}", file=sys.stderr)
+        return 2
+    checks = Checks()
+    signal.signal(signal.SIGTERM, lambda *_: sys.exit(2))  # so that the scratch folder goes
+    with tempfile.TemporaryDirectory(prefix="tool") as folder:
+        Path(folder).chmod(0o755)  # another user's commands are run in it too
+        for name in names or PARTS:
+            place = Path(folder) / name
+            place.mkdir()
+            checks.all_of(PARTS[name], place)
+    print(f"{checks.passed} passed, {checks.failed} failed")
+    return 1 if checks.failed else 0
+
+
+if __name__ == "__main__":
+    sys.exit(main(sys.argv[1:]))
