@@ -1,9 +1,10 @@
 """measure.py: counts and times the calls of the programs that bench/run has built, and prints the tables.
 
-  python3 bench/measure.py --table | --check | --limits | --growth EMULATOR
+  python3 bench/measure.py --table | --check | --limits | --growth EMULATOR TOOLCHAIN
 
-EMULATOR is empty on x86-64. A run of eleven repeats less a run of one is ten calls and what the program does around each; the
-program with the idle engine takes the latter and one instruction a call. Exit status as bench/run says.
+EMULATOR is empty on x86-64; TOOLCHAIN is what the library was compiled by. A run of eleven repeats less a run of one is ten calls
+and what the program does around each; the program with the idle engine takes the latter and one instruction a call. Exit status
+as bench/run says.
 """
 import re
 import signal
@@ -16,7 +17,8 @@ from fractions import Fraction
 WORK = "build/bench"
 ENGINES = {"library": "library", "direct-O2": "C -O2", "direct-O3": "C -O3"}
 LIMITS = {"reset": 500, "sample": 1500, "read 128": 1300, "write 1": 350}  # by how a case's name begins
-MODE, EMULATOR = sys.argv[1:]
+MODE, EMULATOR, TOOLCHAIN = sys.argv[1:]
+STORED = "docs/PERFORMANCE.md"
 
 
 def stop(status, line):
@@ -128,6 +130,17 @@ def growth():
         marks(cost)
 
 
+def stored(cases):
+    """The library's instructions of the stored table, {case: text}; nothing where it is of another toolchain."""
+    with open(STORED, encoding="utf-8") as file:
+        text = file.read()
+    if f"The library by {TOOLCHAIN}," not in text:
+        print(f"-- the table of {STORED} is of another toolchain, and is not compared")
+        return {}
+    rows = re.findall(r"^\| ([^|]+?) +\| +(\d+) \|(?: +\S+ \|){4}", text, re.M)
+    return {(name,): number for name, number in rows if (name,) in cases}
+
+
 def limits(cases):
     most = {case: LIMITS[start] for case in cases for start in LIMITS if case[0].startswith(start)}
     if set(most.values()) != set(LIMITS.values()):
@@ -135,13 +148,18 @@ def limits(cases):
     for case in most:
         program("library", "show", case[0], "1")  # ends all if the call is refused, which costs little
     cost = costs(["library"], most)
-    failed = 0
+    verdicts = {}
     for case in most:
-        right = cost["library", case] <= most[case]
-        failed += not right
-        print(f"{'ok' if right else 'FAILED'} {case[0]}: {shown(cost['library', case])} instructions, at most {most[case]}")
+        said = f"{case[0]}: {shown(cost['library', case])} instructions, at most {most[case]}"
+        verdicts[said] = cost["library", case] <= most[case]
+    table_has = stored(most)
+    if table_has:
+        verdicts[f"these are the numbers of {STORED}"] = table_has == {case: shown(cost["library", case]) for case in most}
+    for said, right in verdicts.items():
+        print(f"{'ok' if right else 'FAILED'} {said}")
     marks(cost)
-    print(f"{len(most) - failed} passed, {failed} failed")
+    failed = list(verdicts.values()).count(False)
+    print(f"{len(verdicts) - failed} passed, {failed} failed")
     sys.exit(1 if failed else 0)
 
 

@@ -73,7 +73,7 @@ void json_number(struct json *json, double value)
     fputs(text, stdout);
 }
 
-static void text(struct json *json, const uint8_t *bytes, size_t len, bool utf8)
+static void quoted(struct json *json, const uint8_t *bytes, size_t len, bool utf8)
 {
     before(json);
     putchar('"');
@@ -89,10 +89,10 @@ static void text(struct json *json, const uint8_t *bytes, size_t len, bool utf8)
 
 void json_bytes(struct json *json, const uint8_t *bytes, size_t len)
 {
-    text(json, bytes, len, false);
+    quoted(json, bytes, len, false);
 }
 
 void json_words(struct json *json, const char *words)
 {
-    text(json, (const uint8_t *)words, strlen(words), true);
+    quoted(json, (const uint8_t *)words, strlen(words), true);
 }

@@ -24,13 +24,14 @@ def fed(module, given):
 
 
 def replace(path, state):
-    """Writes the state beside the file, synced, with its rights and its owner, and renames it."""
+    """Writes the state beside the file, synced, with its rights, and its group and owner if that may be, and renames it."""
     old, beside = path.stat(), path.with_name(f"{path.name}.{os.getpid()}")
     with open(beside, "wb") as file:
         file.write(state)
         file.flush()
-        with contextlib.suppress(PermissionError):
-            os.fchown(file.fileno(), old.st_uid, old.st_gid)
+        for owner, group in ((-1, old.st_gid), (old.st_uid, -1)):
+            with contextlib.suppress(PermissionError):
+                os.fchown(file.fileno(), owner, group)
         os.fchmod(file.fileno(), old.st_mode & 0o7777)
         os.fsync(file.fileno())
     beside.replace(path)

@@ -4,7 +4,7 @@ import resource
 import shutil
 
 from bench import IMAGE
-from station import CHANGES, NOBODY, PROGRAM, Kept, zikhrodan
+from station import CHANGES, LOOKS, NOBODY, PROGRAM, Kept, zikhrodan
 
 SIZES = (0, 1, 31, 640, 687)
 
@@ -67,7 +67,9 @@ def rights(folder, checks):
             group.same(f"{words}: the 688 bytes", True, kept.agrees())
             group.same(f"{words}: other files", [], kept.others())
         place.chmod(0o555)
-        group.same("a look", (0, ""), kept.run("sample", "/dev/null", **user)[::2])
+        group.same("no rows", (0, ""), kept.run("sample", "/dev/null", **user)[::2])
+        for words in LOOKS:
+            group.same(f"show {words}", (0, ""), kept.run("show", *words, **user)[::2])
         seen = zikhrodan(place, "reset", "new.state", **user)
         group.same("reset of a new one", (2, "", "zikhrodan: new.state: Permission denied\n"), seen)
         status, _, complaint = zikhrodan(place, "demo", "--keep", "new", **user)
@@ -81,7 +83,7 @@ def unread(group, place, user):
     kept = Kept(place)
     place.chmod(0o777)
     kept.path.chmod(0o000)
-    for words in CHANGES:
+    for words in [*CHANGES, ("show",)]:
         group.same(words, (2, "", "zikhrodan: module.state: Permission denied\n"), kept.run(*words, **user))
     kept.path.chmod(0o666)
     (place / "closed.image").write_bytes(IMAGE)

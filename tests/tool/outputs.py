@@ -6,7 +6,7 @@ import os
 import subprocess
 
 from bench import IMAGE
-from station import CALM, CHANGES, LOSS, Kept, zikhrodan
+from station import CALM, CHANGES, LOOKS, LOSS, Kept, zikhrodan
 from transcript import ROOT, environment
 
 
@@ -71,6 +71,13 @@ def telling(folder, checks):
             for what in WAYS:
                 seen = without_output(lambda words=words, **lost: zikhrodan(folder, *words, **lost), what)
                 group.same(f"{words}, {what}", (2, "", f"zikhrodan: standard output: {what}\n"), seen)
+    with checks.group("show: standard output cannot be written: one line, status 2, nothing is changed") as group:
+        kept = Kept(folder)
+        for words in LOOKS:
+            for what in WAYS:
+                seen = without_output(lambda how=kept, words=words, **lost: how.run("show", *words, **lost), what)
+                group.same(f"{words}, {what}", (2, "", f"zikhrodan: standard output: {what}\n"), seen)
+        group.same("the 688 bytes, and other files", (True, []), (kept.agrees(), kept.others()))
     with checks.group("demo --keep: standard output cannot be written: one line, status 2, the three files are whole") as group:
         whole = zikhrodan(folder, "demo", "--keep", "whole")
         group.same("kept", 0, whole[0])

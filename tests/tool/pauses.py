@@ -29,6 +29,12 @@ class Feeding:
         out, err = self.process.communicate(timeout=PATIENCE)
         return self.process.returncode, out.decode(), err.decode()
 
+    def ends(self, group, status, taken, complaint=""):
+        """Ends the input, and compares: the exit status, the first line, what was complained, and the state."""
+        seen = self.end()
+        group.same("at the end", (status, taken, complaint), (seen[0], seen[1].split("\n")[0], seen[2]))
+        group.same("the 688 bytes", True, self.kept.agrees())
+
 
 def saved_each_time(folder, checks):
     with checks.group("after each row of a pipe that pauses, the state is saved, and another command has it") as group:
@@ -64,9 +70,7 @@ def halves(folder, checks):
         kept.paper.read(1, 3, 12)
         feeding.give(LOSS[30:])
         kept.paper.sample(LOSS)
-        status, said, complaint = feeding.end()
-        group.same("at the end", (0, "2 rows taken\n", ""), (status, said[:13], complaint))
-        group.same("the 688 bytes", True, kept.agrees())
+        feeding.ends(group, 0, "2 rows taken")
 
 
 def file_first(folder, checks):
@@ -79,9 +83,7 @@ def file_first(folder, checks):
         kept.paper.read(1, 3, 12)
         feeding.give(LOSS)
         kept.paper.sample(LOSS)
-        status, said, complaint = feeding.end()
-        group.same("at the end", (0, "2 rows taken\n", ""), (status, said[:13], complaint))
-        group.same("the 688 bytes", True, kept.agrees())
+        feeding.ends(group, 0, "2 rows taken")
 
 
 def cut_off(folder, checks):
@@ -93,10 +95,7 @@ def cut_off(folder, checks):
         group.same("the first", True, waits(kept.agrees))
         feeding.give(LOSS[:30])
         time.sleep(0.1 * SECOND)
-        status, said, complaint = feeding.end()
-        group.same("at the end", (1, "1 row taken\n", "zikhrodan: standard input: row 2: refused 8, the sample isn't 31 bytes\n"),
-                   (status, said[:12], complaint))
-        group.same("the 688 bytes", True, kept.agrees())
+        feeding.ends(group, 1, "1 row taken", "zikhrodan: standard input: row 2: refused 8, the sample isn't 31 bytes\n")
 
 
 def told_at_once(folder, checks):

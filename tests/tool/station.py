@@ -80,6 +80,9 @@ class Kept:
         return zikhrodan(self.folder, words[0], self.path.name, *words[1:], **how)
 
 
+# The forms of the command that only looks: the words after the state.
+LOOKS = ((), ("--raised",), ("--json",), ("--hex",), ("--hex", "--port", "recorder"))
+
 # The commands that change a state, and the same on paper.
 CHANGES = {
     ("reset",): lambda paper: paper.reset(IMAGE),

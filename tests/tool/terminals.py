@@ -50,7 +50,8 @@ class Terminal:
 
 def colours(folder, checks):
     kept = Kept(folder / "colours")
-    for words in (("demo",), ("read", "module.state", "recorder", 2, 1), ("watch", "module.state", "loss.rows")):
+    for words in (("demo",), ("read", "module.state", "recorder", 2, 1), ("watch", "module.state", "loss.rows"),
+                  ("show", "module.state"), ("show", "module.state", "--hex")):
         with checks.group(f"{words[0]}: colours on a terminal; none with NO_COLOR (also empty), TERM=dumb, in a pipe") as group:
             kept.put()
             plain = subprocess.run(command(*words), check=True, **settled(kept.folder)).stdout.decode()

@@ -62,12 +62,24 @@ def writer(kept, address, times):
     return [number for number in range(times) if kept.run("write", "operator", address, number)[0]]
 
 
+def looker(kept, writers):
+    """Looks while there is a writer, without a lock: what went wrong, and how often it looked."""
+    wrong, count = [], 0
+    while not all(future.done() for future in writers):
+        status, said, complaint = kept.run("show", "--raised")
+        wrong += [complaint] if status or "11 flags let through" not in said else []
+        count += 1
+    return wrong, count
+
+
 def writes(checks, folder):
-    with checks.group("three processes write a byte each, again and again: no write undoes another's") as group:
+    with checks.group("three processes write a byte each, again and again: none undoes another's, and a look is whole") as group:
         kept = Kept(folder / "writes")
-        with ThreadPoolExecutor(len(WRITES)) as pool:
+        with ThreadPoolExecutor(len(WRITES) + 1) as pool:
             futures = [pool.submit(writer, kept, address, times) for address, times in WRITES.items()]
+            looks = pool.submit(looker, kept, futures)
             group.same("the writes", [[]] * len(WRITES), [future.result() for future in futures])
+            group.same("the looks", ([], True), (looks.result()[0], looks.result()[1] > 0))
         for address, times in WRITES.items():
             kept.paper.write(1, address, bytes([times - 1]))
         group.same("the 688 bytes", bytes(kept.paper.state), kept.path.read_bytes())
