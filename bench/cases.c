@@ -1,5 +1,6 @@
 /* cases.c: the calls that are measured. See cases.h. */
 #include "cases.h"
+#include "logs.h"
 
 #include <string.h>
 
@@ -23,6 +24,12 @@ static const uint8_t written[ZIKHRODAN_WRITE_MAX] = {2, 0x50, 0xa0, 0xf0};
 #define OF_LOWER(n) READ, .port = 1, .address = 0, .count = n
 #define OF_PAGE(p, n) READ, .page = p, .port = 1, .address = 128, .count = n
 #define WRITTEN(p, a, n) WRITE, .page = p, .port = 1, .address = a, .count = n
+#define A_LOG(n, l) .sample = in_range, .used = 1, .each = n, .last = l
+#define OF_FULL A_LOG(16, 16)
+#define OF_HALF A_LOG(8, 8)
+#define OF_EMPTY A_LOG(0, 0)
+#define PAST .position = PAST_THE_LAST, .refusal = 17
+#define BLOCKS_OF(n) {"log sample, blocks of " #n ": refused 17", LOG_SAMPLE, A_LOG(n, n), PAST}
 
 const struct one_call cases[] = {
     {"reset", .call = RESET},
@@ -68,6 +75,26 @@ const struct one_call cases[] = {
     {"limits refusal, temperature", LIMITS, .number = ZIKHRODAN_OF_TEMPERATURE},
     {"limit, temperature", LIMIT, .number = ZIKHRODAN_OF_TEMPERATURE},
     {"limit, Tx power", LIMIT, .number = ZIKHRODAN_OF_TX_POWER},
+    {"log add, full blocks, into a new one", LOG_ADD, OF_FULL},
+    {"log add, full blocks but for the last", LOG_ADD, A_LOG(16, 15)},
+    {"log add, half-full blocks", LOG_ADD, OF_HALF},
+    {"log add, empty blocks", LOG_ADD, OF_EMPTY},
+    {"log add: refused 8", LOG_ADD, OF_FULL, .wrong = SAMPLE_SIZE, .refusal = 8},
+    {"log add: refused 15, size", LOG_ADD, OF_FULL, .wrong = LOG_SIZE, .refusal = 15},
+    {"log add: refused 15, first block", LOG_ADD, OF_FULL, .wrong = FIRST_BLOCK, .refusal = 15},
+    {"log add: refused 15, last block", LOG_ADD, OF_FULL, .wrong = LAST_BLOCK, .refusal = 15},
+    {"log add: refused 14", LOG_ADD, OF_FULL, .wrong = NONE_UNUSED, .refusal = 14},
+    {"log power-up, full blocks", LOG_POWER_UP, OF_FULL},
+    {"log power-up, half-full blocks", LOG_POWER_UP, OF_HALF},
+    {"log power-up, empty blocks", LOG_POWER_UP, OF_EMPTY},
+    {"log power-up: refused 14", LOG_POWER_UP, OF_FULL, .wrong = NONE_UNUSED, .refusal = 14},
+    {"log sample, full blocks, the first", LOG_SAMPLE, OF_FULL, .position = THE_FIRST},
+    {"log sample, full blocks, the last", LOG_SAMPLE, OF_FULL, .position = THE_LAST},
+    {"log sample, half-full blocks, the first", LOG_SAMPLE, OF_HALF, .position = THE_FIRST},
+    {"log sample, half-full blocks, the last", LOG_SAMPLE, OF_HALF, .position = THE_LAST},
+    {"log sample: refused 17", LOG_SAMPLE, OF_FULL, PAST},
+    BLOCKS_OF(0), BLOCKS_OF(1), BLOCKS_OF(2), BLOCKS_OF(3), BLOCKS_OF(4), BLOCKS_OF(5), BLOCKS_OF(6), BLOCKS_OF(7), BLOCKS_OF(8),
+    BLOCKS_OF(9), BLOCKS_OF(10), BLOCKS_OF(11), BLOCKS_OF(12), BLOCKS_OF(13), BLOCKS_OF(14), BLOCKS_OF(15), BLOCKS_OF(16),
 };
 const unsigned many_cases = sizeof cases / sizeof cases[0];
 
@@ -82,7 +109,16 @@ bool set_up(const struct one_call *c)
     memcpy(records, state + RECORDS_AT, sizeof records);
     state[ZIKHRODAN_PAGE_00_AT] += c->unsound >= 1;
     image[ZIKHRODAN_PAGE_00_AT] += c->unsound >= 2;
+    if (c->used)
+        set_up_log(c);
     return refused == 0;
+}
+
+void put_back(const struct one_call *c)
+{
+    memcpy(state + RECORDS_AT, records, sizeof records);
+    if (c->used)
+        put_back_log(c);
 }
 
 static uint64_t bits(double number)
@@ -106,6 +142,7 @@ uint64_t make(const struct one_call *c)
     case KIND: return zikhrodan_monitor_kind(state, sizeof state, c->number);
     case VALUE: return bits(zikhrodan_monitor_value(state, sizeof state, c->number));
     case LIMITS: return zikhrodan_limits_refusal(state, sizeof state, c->number);
-    default: return bits(zikhrodan_limit(state, sizeof state, c->number, ZIKHRODAN_HIGH_ALARM));
+    case LIMIT: return bits(zikhrodan_limit(state, sizeof state, c->number, ZIKHRODAN_HIGH_ALARM));
+    default: return make_log(c);
     }
 }

@@ -6,7 +6,13 @@
 
 #include <stdbool.h>
 
-enum call { RESET, SAMPLE, READ, WRITE, IDENTITY, KIND, VALUE, LIMITS, LIMIT };
+enum call { RESET, SAMPLE, READ, WRITE, IDENTITY, KIND, VALUE, LIMITS, LIMIT, LOG_ADD, LOG_POWER_UP, LOG_SAMPLE };
+
+/* What is wrong with a log's call: a byte less in the sample, one more in the memory, a used block's sum, no unused block. */
+enum wrong { NOTHING, SAMPLE_SIZE, LOG_SIZE, FIRST_BLOCK, LAST_BLOCK, NONE_UNUSED };
+
+/* The position that is read. */
+enum position { THE_FIRST, THE_LAST, PAST_THE_LAST };
 
 struct one_call {
     const char *name;
@@ -15,7 +21,11 @@ struct one_call {
     unsigned unsound;               /* identity: 1 the live page, 2 both */
     uint64_t port, address, count;  /* of a read or a write */
     uint64_t number;                /* a field, monitor or quantity */
-    const uint8_t *sample;
+    const uint8_t *sample;          /* the one taken or added; a log's blocks hold it too */
+    uint64_t used;                  /* a log's used blocks, 0 where the call is not on a log */
+    unsigned each, last;            /* the samples of each of them, and of the last */
+    enum wrong wrong;
+    enum position position;
     unsigned refusal;               /* that the call has to give */
 };
 
@@ -30,6 +40,9 @@ extern const unsigned many_cases;
 /* Puts what is lent into the case's state: reset to the factory image; where the case itself takes no sample, one of all FFh, so
  * that both ports have flags up; the page selected for both. False if the engine refuses any of it. */
 bool set_up(const struct one_call *c);
+
+/* Before each call: the records, and a log's last used block and the one behind it, as they were set up. */
+void put_back(const struct one_call *c);
 
 /* The case's one call: its answer, or the bits of its number. */
 uint64_t make(const struct one_call *c);

@@ -1,4 +1,4 @@
-/* direct.h: a plain C engine, to measure the library beside: the nine functions of zikhrodan.h with the prefix direct_. That
+/* direct.h: a plain C engine, to measure the library beside: the twelve functions of zikhrodan.h with the prefix direct_. That
  * header itself declares them, under these names, so a source has one engine or the other. */
 #ifndef DIRECT_H
 #define DIRECT_H
@@ -12,6 +12,9 @@
 #define zikhrodan_monitor_value direct_monitor_value
 #define zikhrodan_limits_refusal direct_limits_refusal
 #define zikhrodan_limit direct_limit
+#define zikhrodan_log_add direct_log_add
+#define zikhrodan_log_power_up direct_log_power_up
+#define zikhrodan_log_sample direct_log_sample
 
 #include "../include/zikhrodan.h"
 

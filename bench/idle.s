@@ -1,7 +1,8 @@
-# idle.s: the nine functions of zikhrodan.h, each of which only returns: one instruction. What a program linked with them takes is
-# what every engine's program takes besides its engine.
+# idle.s: the twelve functions of zikhrodan.h, each of which only returns: one instruction. What a program linked with them takes
+# is what every engine's program takes besides its engine.
         .globl  zikhrodan_reset, zikhrodan_sample, zikhrodan_read, zikhrodan_write, zikhrodan_identity
         .globl  zikhrodan_monitor_kind, zikhrodan_monitor_value, zikhrodan_limits_refusal, zikhrodan_limit
+        .globl  zikhrodan_log_add, zikhrodan_log_power_up, zikhrodan_log_sample
         .text
 zikhrodan_reset:
 zikhrodan_sample:
@@ -12,5 +13,8 @@ zikhrodan_monitor_kind:
 zikhrodan_monitor_value:
 zikhrodan_limits_refusal:
 zikhrodan_limit:
+zikhrodan_log_add:
+zikhrodan_log_power_up:
+zikhrodan_log_sample:
         ret
         .section .note.GNU-stack, "", @progbits

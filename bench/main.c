@@ -2,12 +2,15 @@
  *
  *   PROGRAM list                         the names of the cases
  *   PROGRAM make CASE REPEATS [COUNT]    makes the calls and prints nothing
- *   PROGRAM show CASE REPEATS [COUNT]    makes them, and prints the last answer, the state and the output memory
+ *   PROGRAM show CASE REPEATS [COUNT]    makes them, and prints the last answer, the state, the output memory and what the last
+ *                                        call changed in the log
  *   PROGRAM time CASE                    nanoseconds of one call, with the loop around it, of 20 ms or more of them
  *
- * COUNT is the length of the read or write in place of the case's own. Each call finds the same records, so that a read finds the
- * flags up that the read before it cleared. Exit status 1 if a call does not answer as its case says, 2 if it cannot be made. */
+ * COUNT is the length of the read or write, or the log's used blocks, in place of the case's own. Each call finds the same
+ * records and log, so that a read finds the flags up that the read before it cleared. Exit status 1 if a call does not answer as
+ * its case says, 2 if it cannot be made. */
 #include "cases.h"
+#include "logs.h"
 
 #include <inttypes.h>
 #include <stdio.h>
@@ -26,7 +29,7 @@ static _Noreturn void stop(int status, const char *what, const char *name)
 static void repeat(const struct one_call *c, uint64_t repeats)
 {
     for (; repeats; repeats--) {
-        memcpy(state + RECORDS_AT, records, RECORDS_LEN);
+        put_back(c);
         answer = make(c);
     }
 }
@@ -50,6 +53,7 @@ static void show(const struct one_call *c)
     printf("answer %016" PRIx64 "\n", answer);
     print_bytes("state", state, sizeof state);
     print_bytes("out", out, sizeof out);
+    show_log();
 }
 
 /* ---- time */
@@ -115,11 +119,15 @@ int main(int count, char **words)
 
     struct one_call c = find(words[2]);
     if (count == 5)
-        c.count = number(words[4]);
-    if (c.count > ZIKHRODAN_READ_MAX || (c.call == WRITE && c.count > ZIKHRODAN_WRITE_MAX))
+        *(c.used ? &c.used : &c.count) = number(words[4]);
+    if (c.count > ZIKHRODAN_READ_MAX || (c.call == WRITE && c.count > ZIKHRODAN_WRITE_MAX) || c.used > MOST_USED)
         stop(2, "more bytes than are lent", words[4]);
+    if (c.call >= LOG_ADD && c.used == 0)
+        stop(2, "no block is used", words[4]);
     if (!set_up(&c) && shown)
         stop(1, "it cannot be set up", c.name);
+    if (shown)
+        remember_log();
     if (timed) {
         measure(&c);
         return 0;

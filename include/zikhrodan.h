@@ -7,8 +7,9 @@
  *   - each pointer is good for as many bytes as the length beside it says (for none where that is 0; it may then be null);
  *   - memory lent to one call does not overlap, and nobody else touches it during the call.
  *
- * What each call does is document 01's, and proved for every input; docs/EXAMINER.md says of what, and what is assumed. The helpers
- * and names of this header are not proved: they take an answer apart, or name a number, and decide nothing. */
+ * What each call does is document 01's, and of a log document 02's (Ask 1); it is proved for every input: docs/EXAMINER.md says of
+ * what, and what is assumed. The helpers and names of this header are not proved: they take an answer apart, or name a number, and
+ * decide nothing. */
 #ifndef ZIKHRODAN_H
 #define ZIKHRODAN_H
 
@@ -28,7 +29,9 @@ enum {
     ZIKHRODAN_PAGE_LEN = 128,
     ZIKHRODAN_PAGE_00_AT = 128, /* where page 00h starts, in a state and in an image */
     ZIKHRODAN_READ_MAX = 128,
-    ZIKHRODAN_WRITE_MAX = 4
+    ZIKHRODAN_WRITE_MAX = 4,
+    ZIKHRODAN_BLOCK_LEN = 512,  /* a block of a log */
+    ZIKHRODAN_BLOCK_SAMPLES = 16
 };
 
 /* The two ports. */
@@ -37,7 +40,7 @@ enum {
     ZIKHRODAN_RECORDER = 2
 };
 
-/* Why a call refuses. The lowest that applies is given, but 12 comes before 11. */
+/* Why a call refuses. The lowest that applies is given, but 12 comes before 11, and 15 before 14. */
 enum zikhrodan_refusal {
     ZIKHRODAN_ACCEPTED = 0,
     ZIKHRODAN_STATE_SIZE = 1,
@@ -52,7 +55,10 @@ enum zikhrodan_refusal {
     ZIKHRODAN_CHECK_CODE = 10,
     ZIKHRODAN_NO_SOUND_PAGE = 11,
     ZIKHRODAN_NO_SUCH_FIELD = 12,
-    ZIKHRODAN_NO_SUCH_MONITOR = 13
+    ZIKHRODAN_NO_SUCH_MONITOR = 13,
+    ZIKHRODAN_LOG_FULL = 14,
+    ZIKHRODAN_UNSOUND_LOG = 15,
+    ZIKHRODAN_NO_SUCH_SAMPLE = 17
 };
 
 /* A refusal in words; any number may be passed. */
@@ -73,6 +79,9 @@ static inline const char *zikhrodan_words(uint32_t refusal)
     case ZIKHRODAN_NO_SOUND_PAGE: return "neither page is sound";
     case ZIKHRODAN_NO_SUCH_FIELD: return "the field number isn't 1 to 6";
     case ZIKHRODAN_NO_SUCH_MONITOR: return "the monitor number is above 13, or the quantity above 4";
+    case ZIKHRODAN_LOG_FULL: return "a new block is needed, and none is unused or the last one's number is 4294967295";
+    case ZIKHRODAN_UNSOUND_LOG: return "the log isn't whole blocks, has fewer than are used, or is unsound";
+    case ZIKHRODAN_NO_SUCH_SAMPLE: return "the position is past the last sample";
     default: return "no refusal has this number";
     }
 }
@@ -216,6 +225,36 @@ uint32_t zikhrodan_limits_refusal(const uint8_t *state, size_t state_len, uint64
 
 /* One limit of a quantity; 0.0 where the limits are refused, or for any other `which`. */
 double zikhrodan_limit(const uint8_t *state, size_t state_len, uint64_t quantity, uint64_t which);
+
+/* ---- a log of samples
+ *
+ * A log is memory of whole blocks of 512 bytes, of which the first `used` are used; unused ones may hold anything. It is no port's
+ * memory: no call of the module reads or changes it. With no block used it is sound, whatever the memory holds: a log begins with
+ * `used` 0. The caller keeps the used number from call to call.
+ * 15 is given exactly when it is due: a call that is not refused sooner looks at all of every used block, and its cost is linear in
+ * `used`.
+ * Answer: bits 0-7 the refusal, the rest a value. A refused call changes nothing, its value is 0, and `used` stays what it was: take
+ * the value only after looking at the refusal. A `used` that is too low is not refused, and what is added then overwrites blocks. */
+
+/* Adds a sample, in the last used block if that has room, else in a new one. The value is `used` after the call. Refuses 8, 15, 14,
+ * in that order. */
+uint64_t zikhrodan_log_add(uint8_t *log, size_t log_len, uint64_t used, const uint8_t *sample, size_t sample_len);
+
+/* Opens a new block, as a module that was powered up does. The value is `used` after the call. Refuses 15, 14, in that order. */
+uint64_t zikhrodan_log_power_up(uint8_t *log, size_t log_len, uint64_t used);
+
+/* Where the sample at a position, from 0 on, starts in the log; it is 31 bytes. Refuses 15, 17, in that order. */
+uint64_t zikhrodan_log_sample(const uint8_t *log, size_t log_len, uint64_t used, uint64_t position);
+
+static inline enum zikhrodan_refusal zikhrodan_log_refusal(uint64_t answer)
+{
+    return (enum zikhrodan_refusal)(answer & 0xff);
+}
+
+static inline uint64_t zikhrodan_log_value(uint64_t answer)
+{
+    return answer >> 8;
+}
 
 #ifdef __cplusplus
 }

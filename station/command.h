@@ -11,8 +11,9 @@ struct command {
     const char *help;     /* what it does, its options */
     const char *examples; /* commands after "$ ", and what they print; `zikhrodan demo --keep trial` has gone before */
     int (*run)(int given, char **words); /* the words after the name; gives the exit status */
+    const struct command *const *parts;  /* or it has commands of its own, up to a null */
 };
 
-extern const struct command DEMO, RESET, SAMPLE, READ, WRITE, SHOW, WATCH;
+extern const struct command DEMO, RESET, SAMPLE, READ, WRITE, SHOW, WATCH, LOG;
 
 #endif

@@ -125,7 +125,7 @@ static int keep_file(const char *folder, const char *file, const uint8_t *bytes,
         return fail("%s: the name is too long", folder);
     if (look)
         return lstat(name, &(struct stat){0}) == 0 ? fail("%s is there already, and is not replaced", name) : DONE;
-    return replace(name, name, bytes, len);
+    return replace(name, name, bytes, len, NULL);
 }
 
 /* Leaves the image, the day's rows, and a module that is reset to the image, to try the other commands on. */

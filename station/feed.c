@@ -1,11 +1,11 @@
 /* feed.c: see feed.h. */
 #include "feed.h"
 #include "ask.h"
+#include "logcalls.h"
 #include "say.h"
-#include "words.h"
+#include "signals.h"
 
 #include <inttypes.h>
-#include <limits.h>
 #include <stdio.h>
 #include <string.h>
 #include <time.h>
@@ -22,21 +22,80 @@ static void progress(uint64_t taken)
     shown = now.tv_sec;
 }
 
-/* Feeds one row. Gives the exit status, with the refusal said. */
+/* Hands a row to the module and then to the log. Gives the refusal, and whose it is. */
+static uint32_t hand(struct feed *feed, const uint8_t *row, size_t len, const char **whose)
+{
+    uint32_t answer = 0;
+
+    if (feed->name) {
+        *whose = feed->name;
+        answer = zikhrodan_sample(feed->state.bytes, feed->state.len, row, len);
+        if (zikhrodan_refusal_of(answer) != ZIKHRODAN_ACCEPTED)
+            return zikhrodan_refusal_of(answer);
+    }
+    if (feed->log.name) {
+        *whose = feed->log.name;
+        uint32_t refusal = log_add(&feed->log, row, len);
+        if (refusal != ZIKHRODAN_ACCEPTED)
+            return refusal;
+    }
+    feed->counts[0] = zikhrodan_operator_count(answer);
+    feed->counts[1] = zikhrodan_recorder_count(answer);
+    return ZIKHRODAN_ACCEPTED;
+}
+
+/* Feeds one row; where it is refused, neither has it. Gives the exit status, with the refusal said. */
 static int feed_row(struct feed *feed, const uint8_t *row, size_t len)
 {
     struct state before = feed->state;
-    uint32_t answer = zikhrodan_sample(feed->state.bytes, feed->state.len, row, len), refusal = zikhrodan_refusal_of(answer);
+    const char *whose = NULL;
+    uint32_t refusal = hand(feed, row, len, &whose);
 
+    if (refusal != ZIKHRODAN_ACCEPTED)
+        feed->state = before;
     if (refusal == ZIKHRODAN_SAMPLE_SIZE)
         return refused(refusal, "%s: row %" PRIu64, feed->rows.name, feed->rows.row);
     if (refusal != ZIKHRODAN_ACCEPTED)
-        return refused(refusal, "%s: at row %" PRIu64 " of %s", feed->name, feed->rows.row, feed->rows.name);
+        return refused(refusal, "%s: at row %" PRIu64 " of %s", whose, feed->rows.row, feed->rows.name);
     feed->taken++;
-    feed->counts[0] = zikhrodan_operator_count(answer);
-    feed->counts[1] = zikhrodan_recorder_count(answer);
     progress(feed->taken);
     return feed->tell ? feed->tell(feed, &before) : DONE;
+}
+
+static int open_both(struct feed *feed)
+{
+    int status = feed->name ? state_open(&feed->state, feed->name, IS_ERROR) : DONE;
+
+    if (status != DONE || !feed->log.name || (status = log_begin(&feed->log)) == DONE)
+        return status;
+    if (feed->name)
+        state_close(&feed->state);
+    return status;
+}
+
+/* The log first, of `rows` more rows: it is never behind the state. */
+static int save_both(struct feed *feed, uint64_t rows)
+{
+    sigset_t before;
+
+    hold_signals(&before);
+    int status = feed->log.name ? log_commit(&feed->log) : DONE;
+    if (status == DONE && feed->name) {
+        status = state_save(&feed->state);
+        if (status != DONE && feed->log.name)
+            fail("%s has %" PRIu64 " row%s that the state has %s", feed->log.name, rows, plural(rows),
+                 feed->state.saved ? "too" : "not");
+    }
+    let_signals(&before);
+    return status;
+}
+
+static void close_both(struct feed *feed)
+{
+    if (feed->log.name)
+        log_end(&feed->log);
+    if (feed->name)
+        state_close(&feed->state);
 }
 
 /* Feeds the row at hand and those of its file that are there without waiting; then saves. */
@@ -44,14 +103,14 @@ static int feed_batch(struct feed *feed, const uint8_t *row, size_t len)
 {
     uint64_t had = feed->taken;
     unsigned counts[2] = {feed->counts[0], feed->counts[1]};
-    int status = state_open(&feed->state, feed->name, IS_ERROR);
+    int status = open_both(feed);
     if (status != DONE)
         return status;
 
     while ((status = feed_row(feed, row, len)) == DONE && rows_ready(&feed->rows))
         rows_next(&feed->rows, &row, &len);
-    int saved = feed->taken > had ? state_save(&feed->state) : DONE;
-    state_close(&feed->state);
+    int saved = feed->taken > had ? save_both(feed, feed->taken - had) : DONE;
+    close_both(feed);
     if (saved == DONE)
         return status;
     feed->taken = had; /* what is not saved is not taken */
@@ -59,42 +118,41 @@ static int feed_batch(struct feed *feed, const uint8_t *row, size_t len)
     return saved;
 }
 
-/* The counts of a state that is fed nothing. */
+/* The counts of a state that is fed nothing, and whether the log can be had. */
 static int look(struct feed *feed)
 {
-    int status = state_peek(&feed->state, feed->name);
+    int status = feed->name ? state_peek(&feed->state, feed->name) : DONE;
 
-    for (unsigned i = 0; i < 2 && status == DONE; i++) {
+    for (unsigned i = 0; i < 2 && feed->name && status == DONE; i++) {
         struct port_view view = ask_port(&feed->state, ZIKHRODAN_OPERATOR + i);
         if (view.refusal != ZIKHRODAN_ACCEPTED)
             status = refused(view.refusal, "%s", feed->name);
         feed->counts[i] = view.count;
     }
+    if (status == DONE && feed->log.name && (status = log_begin(&feed->log)) == DONE)
+        log_end(&feed->log);
     return status;
 }
 
 static void summary(const struct feed *feed)
 {
     printf("%" PRIu64 " row%s taken\n", feed->taken, plural(feed->taken));
-    for (unsigned i = 0; i < 2; i++) {
+    for (unsigned i = 0; i < 2 && feed->name; i++) {
         say_count(ZIKHRODAN_OPERATOR + i, feed->counts[i]);
         putchar('\n');
     }
+    if (feed->log.name)
+        say_used(&feed->log);
 }
 
-int feed_all(struct feed *feed, int given, char **words)
+int feed_all(struct feed *feed, char **names, int count)
 {
-    static const struct option options[] = {{0}};
     const uint8_t *row;
     size_t len;
-    int more = 1;
+    int more = 1, status = look(feed);
 
-    if (!words_in(&given, words, options, 1, INT_MAX))
-        return USAGE_OR_FILE;
-    feed->name = words[0];
-    int status = look(feed);
     if (status == DONE)
-        status = rows_begin(&feed->rows, words + 1, given - 1);
+        status = rows_begin(&feed->rows, names, count);
     while (status == DONE && more > 0 && (more = rows_next(&feed->rows, &row, &len)) > 0)
         status = feed_batch(feed, row, len);
     wipe();
@@ -103,5 +161,6 @@ int feed_all(struct feed *feed, int given, char **words)
         status = USAGE_OR_FILE;
     if (status == DONE || feed->taken > 0)
         summary(feed);
+    log_close(&feed->log);
     return status;
 }

@@ -1,12 +1,14 @@
-/* feed.h: rows fed to a module whose state is in a file, for sample and watch. */
+/* feed.h: rows fed to a module whose state is in a file, to a log in a file, or to both: for sample, watch and log add. */
 #ifndef FEED_H
 #define FEED_H
 
+#include "logfile.h"
 #include "rows.h"
 #include "state.h"
 
 struct feed {
-    const char *name;        /* the state's */
+    const char *name;        /* the state's; null where there is a log alone */
+    struct logfile log;      /* its name is null where there is none; else it begins as log_begin wants it */
     struct rows rows;
     struct state state;
     uint64_t taken;          /* rows taken */
@@ -14,9 +16,10 @@ struct feed {
     int (*tell)(const struct feed *feed, const struct state *before); /* after each row; gives the exit status; may be null */
 };
 
-/* Feeds all rows: the words are STATE [ROWS.. | -]. Whenever the input pauses, and at the end of a file, the state is saved, and
- * others can have it. A row that is refused ends it: the state is then that of the row before. At the end it says how many rows
- * were taken, and each port's count. Gives the exit status, with what went wrong said. */
-int feed_all(struct feed *feed, int given, char **words);
+/* Feeds the rows of these files, as rows_begin takes them. Whenever the input pauses, and at the end of a file, the log is
+ * committed and then the state is saved, and others can have them. A row that is refused ends it: log and state are then those of
+ * the row before. At the end it says how many rows were taken, each port's count, and how far the log is used. Gives the exit
+ * status, with what went wrong said. */
+int feed_all(struct feed *feed, char **names, int count);
 
 #endif

@@ -1,6 +1,7 @@
 /* files.c: see files.h. */
 #include "files.h"
 #include "say.h"
+#include "signals.h"
 
 #include <errno.h>
 #include <fcntl.h>
@@ -75,12 +76,26 @@ int load(const char *path, const char *name, uint8_t *bytes, size_t room, size_t
     return status;
 }
 
-static int write_all(int fd, const uint8_t *bytes, size_t len)
+ssize_t read_at(int fd, uint8_t *bytes, size_t room, off_t at)
+{
+    size_t len = 0;
+    ssize_t got = 1;
+
+    while (len < room && got != 0) {
+        got = pread(fd, bytes + len, room - len, at + (off_t)len);
+        if (got < 0 && errno != EINTR)
+            return -1;
+        len += got > 0 ? (size_t)got : 0;
+    }
+    return (ssize_t)len;
+}
+
+int write_at(int fd, const uint8_t *bytes, size_t len, off_t at)
 {
     size_t done = 0;
 
     while (done < len) {
-        ssize_t put = write(fd, bytes + done, len - done);
+        ssize_t put = pwrite(fd, bytes + done, len - done, at + (off_t)done);
         if (put < 0 && errno != EINTR)
             return -1;
         done += put > 0 ? (size_t)put : 0;
@@ -124,7 +139,7 @@ static int write_new(char *beside, const char *path, const uint8_t *bytes, size_
     int fd = mkstemp(beside);
     if (fd < 0)
         return -1;
-    int failed = write_all(fd, bytes, len) != 0 || dress(fd, path) != 0 || fsync(fd) != 0 ? errno : 0;
+    int failed = write_at(fd, bytes, len, 0) != 0 || dress(fd, path) != 0 || fsync(fd) != 0 ? errno : 0;
     if (close(fd) != 0 && !failed)
         failed = errno;
     if (!failed)
@@ -134,7 +149,7 @@ static int write_new(char *beside, const char *path, const uint8_t *bytes, size_
     return -1;
 }
 
-static int sync_folder(const char *path)
+int sync_folder(const char *path)
 {
     int folder = folder_of(path);
     if (folder < 0)
@@ -145,7 +160,7 @@ static int sync_folder(const char *path)
     return failed ? -1 : 0;
 }
 
-static int write_beside(const char *path, const char *name, const uint8_t *bytes, size_t len)
+static int write_beside(const char *path, const char *name, const uint8_t *bytes, size_t len, bool *replaced)
 {
     char beside[PATH_MAX];
     if (snprintf(beside, sizeof beside, "%s.XXXXXX", path) >= (int)sizeof beside)
@@ -158,22 +173,21 @@ static int write_beside(const char *path, const char *name, const uint8_t *bytes
         errno = why;
         return fail_errno(name);
     }
+    *replaced = true;
     if (sync_folder(path) != 0)
         return fail("%s: it is replaced, but may not last a loss of power: %s", name, strerror(errno));
     return 0;
 }
 
-/* A signal that asks the tool to end waits meanwhile, so that nothing is left beside the file. */
-int replace(const char *path, const char *name, const uint8_t *bytes, size_t len)
+int replace(const char *path, const char *name, const uint8_t *bytes, size_t len, bool *replaced)
 {
-    sigset_t asks, before;
+    bool done = false;
+    sigset_t before;
 
-    sigemptyset(&asks);
-    sigaddset(&asks, SIGINT);
-    sigaddset(&asks, SIGTERM);
-    sigaddset(&asks, SIGHUP);
-    sigprocmask(SIG_BLOCK, &asks, &before);
-    int status = write_beside(path, name, bytes, len);
-    sigprocmask(SIG_SETMASK, &before, NULL);
+    hold_signals(&before); /* so that nothing is left beside the file */
+    int status = write_beside(path, name, bytes, len, &done);
+    let_signals(&before);
+    if (replaced)
+        *replaced = done;
     return status;
 }

@@ -2,21 +2,34 @@
 #include "json.h"
 #include "dump.h"
 
+#include <float.h>
+#include <inttypes.h>
 #include <stdio.h>
 #include <stdlib.h>
 #include <string.h>
 
-/* What stands before a value in an array; in an object its key has seen to that. */
-static void before(struct json *json)
-{
-    if (json->depth > 0 && json->closing[json->depth - 1] == ']' && json->begun)
-        fputs(", ", stdout);
-    json->begun = true;
-}
-
 static void new_line(const struct json *json)
 {
     printf("\n%*s", (int)(4 * json->indent), "");
+}
+
+/* What stands before a value in an array; in an object its key has seen to that. */
+static void before(struct json *json)
+{
+    bool in_array = json->depth > 0 && json->closing[json->depth - 1] == ']';
+    bool in_list = in_array && json->depth == json->listed;
+
+    if (in_array && json->begun)
+        fputs(in_list ? "," : ", ", stdout);
+    if (in_list)
+        new_line(json);
+    json->begun = true;
+}
+
+/* Whether what is at this depth has a line for each value: an object that is in no list, and the list itself. */
+static bool has_lines(const struct json *json, char closing)
+{
+    return closing == '}' ? json->listed == 0 : json->depth == json->listed;
 }
 
 void json_begin(struct json *json, char opening)
@@ -24,28 +37,42 @@ void json_begin(struct json *json, char opening)
     before(json);
     putchar(opening);
     json->closing[json->depth++] = opening == '{' ? '}' : ']';
-    json->indent += opening == '{';
+    json->indent += has_lines(json, json->closing[json->depth - 1]);
+    json->begun = false;
+}
+
+void json_list(struct json *json)
+{
+    before(json);
+    putchar('[');
+    json->closing[json->depth++] = ']';
+    json->listed = json->depth;
+    json->indent++;
     json->begun = false;
 }
 
 void json_end(struct json *json)
 {
-    char closing = json->closing[--json->depth];
+    char closing = json->closing[json->depth - 1];
+    bool lines = has_lines(json, closing);
 
-    json->indent -= closing == '}';
-    if (closing == '}' && json->begun)
+    json->indent -= lines;
+    if (lines && json->begun)
         new_line(json);
     putchar(closing);
+    if (json->depth == json->listed)
+        json->listed = 0;
     json->begun = true;
-    if (json->depth == 0)
+    if (--json->depth == 0)
         putchar('\n');
 }
 
 void json_key(struct json *json, const char *key)
 {
     if (json->begun)
-        putchar(',');
-    new_line(json);
+        fputs(json->listed ? ", " : ",", stdout);
+    if (!json->listed)
+        new_line(json);
     printf("\"%s\": ", key);
 }
 
@@ -61,16 +88,27 @@ void json_bool(struct json *json, bool value)
     fputs(value ? "true" : "false", stdout);
 }
 
-void json_number(struct json *json, double value)
+void print_number(double value)
 {
     char text[32];
-    int digits = 3; /* so that no number below 1000 is written with an exponent; zeros at the end are left out in any case */
+    int digits = DBL_DIG; /* a decimal of so many digits comes out as it went in; zeros at the end are left out in any case */
 
     do
         snprintf(text, sizeof text, "%.*g", digits, value);
     while (strtod(text, NULL) != value && digits++ < 17);
-    before(json);
     fputs(text, stdout);
+}
+
+void json_number(struct json *json, double value)
+{
+    before(json);
+    print_number(value);
+}
+
+void json_whole(struct json *json, uint64_t number)
+{
+    before(json);
+    printf("%" PRIu64, number);
 }
 
 static void quoted(struct json *json, const uint8_t *bytes, size_t len, bool utf8)

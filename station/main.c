@@ -8,15 +8,19 @@
 #include <stdlib.h>
 #include <string.h>
 
-static const struct command *const COMMANDS[] = {&DEMO, &RESET, &SAMPLE, &READ, &WRITE, &SHOW, &WATCH};
-enum { COUNT = sizeof COMMANDS / sizeof COMMANDS[0] };
+static const struct command *const COMMANDS[] = {&DEMO, &RESET, &SAMPLE, &READ, &WRITE, &SHOW, &WATCH, &LOG, NULL};
+
+static void list(const struct command *const *commands, int name, int usage)
+{
+    for (; *commands; commands++)
+        printf("  %-*s%-*s %s\n", name, (*commands)->name, usage, (*commands)->usage, (*commands)->brief);
+}
 
 static void help(void)
 {
     puts("zikhrodan: an optical module with two management ports, at a shore station. The\n"
          "proved library decides; this tool asks and prints.\n");
-    for (int i = 0; i < COUNT; i++)
-        printf("  %-7s%-33s %s\n", COMMANDS[i]->name, COMMANDS[i]->usage, COMMANDS[i]->brief);
+    list(COMMANDS, 7, 33);
     puts("\n"
          "STATE is a file of 688 bytes, a module's memory; PORT is operator (1) or\n"
          "recorder (2); numbers are decimal, or hex after 0x. An image or rows in a file\n"
@@ -26,18 +30,24 @@ static void help(void)
          "Start with: zikhrodan demo");
 }
 
-static void help_of(const struct command *command)
+/* Of a command, or of one that is part of another, `whole`. */
+static void help_of(const struct command *whole, const struct command *command)
 {
-    printf("usage: zikhrodan %s%s%s\n\n%s\n\nExamples, after `zikhrodan demo --keep trial`:\n\n%s", command->name,
-           command->usage[0] ? " " : "", command->usage, command->help, command->examples);
+    printf("usage: zikhrodan %s%s%s%s%s\n\n%s\n", whole ? whole->name : "", whole ? " " : "", command->name,
+           command->usage[0] ? " " : "", command->usage, command->help);
+    if (command->parts) {
+        putchar('\n');
+        list(command->parts, 9, 18);
+        printf("\n`zikhrodan %s COMMAND --help` has more.\n", command->name);
+    }
+    printf("\nExamples, after `zikhrodan demo --keep trial`:\n\n%s", command->examples);
 }
 
-static const struct command *named(const char *name)
+static const struct command *named(const struct command *const *commands, const char *name)
 {
-    for (int i = 0; i < COUNT; i++)
-        if (strcmp(COMMANDS[i]->name, name) == 0)
-            return COMMANDS[i];
-    return NULL;
+    while (*commands && strcmp((*commands)->name, name) != 0)
+        commands++;
+    return *commands;
 }
 
 /* "--help" or "-h" among the words, before any "--". */
@@ -73,13 +83,19 @@ int main(int argc, char **argv)
         help();
         return finished(DONE);
     }
-    const char *name = argv[asked ? 2 : 1];
-    const struct command *command = named(name);
+    int at = asked ? 2 : 1;
+    const struct command *whole = NULL, *command = named(COMMANDS, argv[at]);
     if (!command)
-        return fail("there is no command '%s'; `zikhrodan --help` lists them", name);
-    if (asked || wants_help(argc - 2, argv + 2)) {
-        help_of(command);
+        return fail("there is no command '%s'; `zikhrodan --help` lists them", argv[at]);
+    if (command->parts && at + 1 < argc && !wants_help(1, argv + at + 1)) {
+        whole = command;
+        command = named(whole->parts, argv[++at]);
+    }
+    if (!command)
+        return fail("there is no command '%s %s'; `zikhrodan %s --help` lists them", whole->name, argv[at], whole->name);
+    if (asked || command->parts || wants_help(argc - at - 1, argv + at + 1)) {
+        help_of(whole, command);
         return finished(DONE);
     }
-    return finished(command->run(argc - 2, argv + 2));
+    return finished(command->run(argc - at - 1, argv + at + 1));
 }

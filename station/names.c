@@ -2,10 +2,15 @@
 #include "names.h"
 
 #include <stdio.h>
-#include <zikhrodan.h>
 
 const char *const LIMIT_NAMES[LIMITS] = {"high alarm", "low alarm", "high warning", "low warning"};
 const char *const UNIT_NAMES[] = {"", "C", "V", "mW", "mA"};
+const int UNIT_DECIMALS[] = {
+    [ZIKHRODAN_DEGREES] = 4, [ZIKHRODAN_VOLTS] = 4, [ZIKHRODAN_MILLIWATTS] = 4, [ZIKHRODAN_MILLIAMPERES] = 3,
+};
+const enum zikhrodan_kind QUANTITY_KINDS[QUANTITIES] = {
+    ZIKHRODAN_DEGREES, ZIKHRODAN_VOLTS, ZIKHRODAN_MILLIWATTS, ZIKHRODAN_MILLIAMPERES, ZIKHRODAN_MILLIWATTS,
+};
 const char *const PAGE_TITLES[PAGES] = {
     "identity, options", "application select", "the operator's own EEPROM", "thresholds, controls",
 };

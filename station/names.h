@@ -4,6 +4,7 @@
 #define NAMES_H
 
 #include <stddef.h>
+#include <zikhrodan.h>
 
 /* The flag bytes are lower 3 to 14, in twelve; their bits are numbered as the document does, 7 to 0. */
 enum { FLAGS_AT = 3, FLAG_BYTES = 12, MONITORS = 14, QUANTITIES = 5, LIMITS = 4, PAGES = 4, PORTS = 2 };
@@ -28,6 +29,8 @@ unsigned quantity_of(unsigned monitor);
 
 extern const char *const LIMIT_NAMES[LIMITS];
 extern const char *const UNIT_NAMES[];    /* by zikhrodan.h's kinds */
+extern const int UNIT_DECIMALS[];         /* for people, by the same */
+extern const enum zikhrodan_kind QUANTITY_KINDS[QUANTITIES];
 extern const char *const PAGE_TITLES[PAGES];
 extern const char *const FIELD_NAMES[7];  /* identity's, from 1 */
 

@@ -1,24 +1,34 @@
 /* sample.c: zikhrodan sample. */
 #include "command.h"
 #include "feed.h"
+#include "words.h"
+
+#include <limits.h>
 
 static int sample(int given, char **words)
 {
-    static struct feed feed;
+    static struct feed feed = {.log = {.fd = -1}};
+    const struct option options[] = {{.name = "--log", .value = &feed.log.name}, {0}};
 
-    return feed_all(&feed, given, words);
+    if (!words_in(&given, words, options, 1, INT_MAX))
+        return USAGE_OR_FILE;
+    feed.name = words[0];
+    return feed_all(&feed, words + 1, given - 1);
 }
 
 const struct command SAMPLE = {
     .name = "sample",
-    .usage = "STATE [ROWS.. | -]",
+    .usage = "[--log FILE] STATE [ROWS.. | -]",
     .brief = "feeds samples: rows of 31 bytes",
     .help = "Feeds the rows of files, or of standard input, to the module, one after the\n"
             "other, and says how many were taken and how many flags each port's masks let\n"
             "through. A row that the library refuses ends it, with the row's number; the\n"
             "state is then that of the row before. On a terminal a long input shows how far\n"
             "it is. The state is saved at the end of each file and, from a pipe, whenever it\n"
-            "pauses, so that rows can come in all day long while others read the state.",
+            "pauses, so that rows can come in all day long while others read the state.\n\n"
+            "  --log FILE    the rows go into a log too (`zikhrodan log`): row by row, and a\n"
+            "                row that either refuses neither has. The log is committed before\n"
+            "                the state is saved, so that it is never behind",
     .examples = "    $ zikhrodan sample trial/module.state trial/day.rows\n"
                 "    1440 rows taken\n"
                 "    operator: 3 flags let through, interrupt\n"
@@ -28,6 +38,13 @@ const struct command SAMPLE = {
                 "    3 rows taken\n"
                 "    operator: 3 flags let through, interrupt\n"
                 "    recorder: 3 flags let through, interrupt\n"
-                "    [exit status 1]\n",
+                "    [exit status 1]\n"
+                "    $ zikhrodan log new trial/day.log 90\n"
+                "    trial/day.log has room for 90 blocks, of 16 samples each\n"
+                "    $ zikhrodan sample --log trial/day.log trial/module.state trial/day.rows\n"
+                "    1440 rows taken\n"
+                "    operator: 3 flags let through, interrupt\n"
+                "    recorder: 3 flags let through, interrupt\n"
+                "    trial/day.log: 90 of 90 blocks used\n",
     .run = sample,
 };

@@ -6,13 +6,6 @@
 #include <stdio.h>
 #include <string.h>
 
-/* The unit of a quantity's limits, which stand also where its monitors have measured nothing; and the decimals of a unit. */
-static const enum zikhrodan_kind KINDS[QUANTITIES] = {
-    ZIKHRODAN_DEGREES, ZIKHRODAN_VOLTS, ZIKHRODAN_MILLIWATTS, ZIKHRODAN_MILLIAMPERES, ZIKHRODAN_MILLIWATTS,
-};
-static const int DECIMALS[] = {
-    [ZIKHRODAN_DEGREES] = 4, [ZIKHRODAN_VOLTS] = 4, [ZIKHRODAN_MILLIWATTS] = 4, [ZIKHRODAN_MILLIAMPERES] = 3,
-};
 static const enum zikhrodan_which COLUMNS[LIMITS] = {
     ZIKHRODAN_LOW_ALARM, ZIKHRODAN_LOW_WARNING, ZIKHRODAN_HIGH_WARNING, ZIKHRODAN_HIGH_ALARM,
 };
@@ -84,18 +77,18 @@ static bool any_outside(const struct shown *shown, unsigned monitor)
 static void monitor_line(const struct shown *shown, unsigned monitor)
 {
     unsigned quantity = quantity_of(monitor);
-    enum zikhrodan_kind kind = KINDS[quantity];
+    enum zikhrodan_kind kind = QUANTITY_KINDS[quantity]; /* its limits stand also where its monitors have measured nothing */
     char text[NAME_ROOM];
 
     printf("  %-12s%-4s", monitor_name(monitor, text, sizeof text), UNIT_NAMES[kind]);
     if (shown->kinds[monitor] == ZIKHRODAN_NOTHING)
         printf("%s%16s%s", paint(FAINT), "nothing measured", paint(PLAIN));
     else
-        printf("%s%16.*f%s", paint(any_outside(shown, monitor) ? BAD : PLAIN), DECIMALS[kind], shown->values[monitor],
+        printf("%s%16.*f%s", paint(any_outside(shown, monitor) ? BAD : PLAIN), UNIT_DECIMALS[kind], shown->values[monitor],
                paint(PLAIN));
     for (unsigned column = 0; column < LIMITS; column++) {
         bool outside = is_outside(shown, monitor, COLUMNS[column]);
-        snprintf(text, sizeof text, "%s%.*f", outside ? "*" : "", DECIMALS[kind], shown->limits[quantity][COLUMNS[column]]);
+        snprintf(text, sizeof text, "%s%.*f", outside ? "*" : "", UNIT_DECIMALS[kind], shown->limits[quantity][COLUMNS[column]]);
         printf("%s%10s%s", paint(outside ? BAD : PLAIN), text, paint(PLAIN));
     }
     putchar('\n');

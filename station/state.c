@@ -2,6 +2,7 @@
 #include "state.h"
 #include "factory.h"
 #include "files.h"
+#include "lock.h"
 #include "say.h"
 
 #include <errno.h>
@@ -13,30 +14,15 @@
 #include <sys/stat.h>
 #include <unistd.h>
 
-/* Waits for the lock of a folder, and says so to a person; -1 with errno set. */
-static int lock(int folder, const char *name)
+/* Whether the folder that is locked is still the one that the path leads to; -1 with errno set where that cannot be told. */
+static int is_folder_of(int folder, const char *path)
 {
-    if (flock(folder, LOCK_EX | LOCK_NB) == 0)
-        return 0;
-    if (errno == EWOULDBLOCK && isatty(STDERR_FILENO))
-        fprintf(stderr, "zikhrodan: %s: waiting for another command in its folder\n", name);
-    int locked;
-    do
-        locked = flock(folder, LOCK_EX);
-    while (locked != 0 && errno == EINTR);
-    return locked;
-}
-
-/* The folder that is locked is still the one that the path leads to. */
-static bool is_folder_of(int folder, const char *path)
-{
-    struct stat locked, now;
     int again = folder_of(path);
-    bool same = again >= 0 && fstat(folder, &locked) == 0 && fstat(again, &now) == 0 && locked.st_dev == now.st_dev &&
-                locked.st_ino == now.st_ino;
+    if (again < 0)
+        return errno == ENOENT || errno == ENOTDIR ? 0 : -1;
+    bool same = same_file(folder, again);
 
-    if (again >= 0)
-        close(again);
+    close(again);
     return same;
 }
 
@@ -47,12 +33,12 @@ static int lock_folder(const char *path, const char *name)
         int folder = folder_of(path);
         if (folder < 0)
             return -1;
-        int locked = lock(folder, name);
-        if (locked == 0 && is_folder_of(folder, path))
+        int leads = lock(folder, LOCK_EX, name, " in its folder") == 0 ? is_folder_of(folder, path) : -1;
+        if (leads > 0)
             return folder;
         int why = errno;
         close(folder);
-        if (locked != 0) {
+        if (leads < 0) {
             errno = why;
             return -1;
         }
@@ -119,7 +105,7 @@ int state_open(struct state *state, const char *name, enum if_missing missing)
 
 int state_save(struct state *state)
 {
-    return replace(state->path, state->name, state->bytes, state->len);
+    return replace(state->path, state->name, state->bytes, state->len, &state->saved);
 }
 
 void state_close(struct state *state)

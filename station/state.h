@@ -5,6 +5,7 @@
 #ifndef STATE_H
 #define STATE_H
 
+#include <stdbool.h>
 #include <stddef.h>
 #include <stdint.h>
 #include <zikhrodan.h>
@@ -16,6 +17,7 @@ struct state {
     const char *name; /* as it was given */
     char *path;       /* with links resolved */
     int folder;       /* locked */
+    bool saved;       /* after state_save: the file has it, even if that may not last */
     size_t len;
     uint8_t bytes[STATE_ROOM];
 };

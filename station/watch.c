@@ -5,6 +5,7 @@
 #include "words.h"
 
 #include <inttypes.h>
+#include <limits.h>
 #include <stdio.h>
 
 /* The names of flags, with commas between them. */
@@ -49,9 +50,13 @@ static int tell(const struct feed *feed, const struct state *before)
 
 static int watch(int given, char **words)
 {
-    static struct feed feed = {.tell = tell};
+    static const struct option options[] = {{0}};
+    static struct feed feed = {.log = {.fd = -1}, .tell = tell};
 
-    return feed_all(&feed, given, words);
+    if (!words_in(&given, words, options, 1, INT_MAX))
+        return USAGE_OR_FILE;
+    feed.name = words[0];
+    return feed_all(&feed, words + 1, given - 1);
 }
 
 const struct command WATCH = {

@@ -8,8 +8,8 @@
 
 void both_prepare(void);
 
-/* Both begin with these bytes. A vast state is lent to the library alone, read-only: the plain engine then begins with 689 zeros,
- * which is as little 688 bytes as that. */
+/* Both begin with these bytes, a module's state or a log. With vast ones the plain engine has a log as vast, but its module
+ * begins with 689 zeros, which is as little 688 bytes as that. */
 void both_begin(struct bytes state, enum place place);
 
 /* Makes a call on both. True if answer, state and output agree, no input has changed and all canary bytes stand. */
@@ -19,7 +19,7 @@ bool both_make(const struct call *call);
 uint64_t both_answer(void);
 void both_print_differences(FILE *to);
 
-/* The state that the plain engine has, as long as the one begun with. */
+/* The state or the log that the plain engine has, as long as the one begun with. */
 const uint8_t *both_state(void);
 
 #endif

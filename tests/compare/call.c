@@ -42,9 +42,34 @@ struct call a_limit(uint64_t quantity, uint64_t which)
     return (struct call){ .kind = LIMIT, .number = quantity, .which = which };
 }
 
+struct call a_log_add(uint64_t used, struct bytes sample)
+{
+    return (struct call){ .kind = LOG_ADD, .number = used, .first = sample };
+}
+
+struct call a_log_power_up(uint64_t used)
+{
+    return of_number(LOG_POWER_UP, used);
+}
+
+struct call a_log_sample(uint64_t used, uint64_t position)
+{
+    return (struct call){ .kind = LOG_SAMPLE, .number = used, .which = position };
+}
+
+struct call a_put(uint64_t place, uint8_t byte)
+{
+    return (struct call){ .kind = PUT, .number = place, .fill = byte };
+}
+
 bool call_is_double(enum kind kind)
 {
     return kind == VALUE || kind == LIMIT;
+}
+
+bool call_is_of_log(enum kind kind)
+{
+    return kind >= LOG_ADD && kind <= LOG_SAMPLE;
 }
 
 static void *grown(void *at, size_t *room, size_t wanted, size_t size)

@@ -77,7 +77,7 @@ void try_expecting(struct call call, unsigned refusal)
 {
     uint64_t answer = try(call);
     if (refusal ? answer != refusal : answer & 0xff)
-        mismatch("both answer %08" PRIx64 ", document 01 has refusal %u", answer, refusal);
+        mismatch("both answer %08" PRIx64 ", the papers have refusal %u", answer, refusal);
 }
 
 void fail(const char *format, ...)

@@ -15,14 +15,14 @@ extern struct options options;
 /* Where begun states and all else that is lent lie from now on. */
 void place_at(enum place place);
 
-/* Both engines begin with these 688 bytes, or with any bytes. */
+/* Both engines begin with these 688 bytes, or with any bytes: a log, too. */
 void begin(const uint8_t *state);
 void begin_with(struct bytes state);
 
 /* Makes a call on both and compares; the answer. */
 uint64_t try(struct call call);
 
-/* The same, with the refusal that document 01 gives: that is then the whole answer. If it is 0 the call has to be accepted. */
+/* The same, with the refusal that the papers give: that is then the whole answer. If it is 0 the call has to be accepted. */
 void try_expecting(struct call call, unsigned refusal);
 
 /* The group fails, with these words; a mismatch also prints the case, if it is the first of all. */

@@ -2,6 +2,7 @@
 #include "engines.h"
 
 #include "../../include/zikhrodan.h"
+#include "../plain/log.h"
 
 #include <string.h>
 
@@ -19,6 +20,14 @@ static uint64_t bits(double number)
     return same;
 }
 
+/* A byte past the front of vast memory is not changed. */
+static uint64_t put(const struct call *c, const struct lent *l)
+{
+    if (c->number < l->state_len && c->number < REGION)
+        l->state[c->number] = c->fill;
+    return 0;
+}
+
 static uint64_t library_answer(const struct call *c, const struct lent *l)
 {
     switch (c->kind) {
@@ -30,7 +39,11 @@ static uint64_t library_answer(const struct call *c, const struct lent *l)
     case KIND: return zikhrodan_monitor_kind(l->state, l->state_len, c->number);
     case VALUE: return bits(zikhrodan_monitor_value(l->state, l->state_len, c->number));
     case LIMITS: return zikhrodan_limits_refusal(l->state, l->state_len, c->number);
-    default: return bits(zikhrodan_limit(l->state, l->state_len, c->number, c->which));
+    case LIMIT: return bits(zikhrodan_limit(l->state, l->state_len, c->number, c->which));
+    case LOG_ADD: return zikhrodan_log_add(l->state, l->state_len, c->number, l->first, c->first.len);
+    case LOG_POWER_UP: return zikhrodan_log_power_up(l->state, l->state_len, c->number);
+    case LOG_SAMPLE: return zikhrodan_log_sample(l->state, l->state_len, c->number, c->which);
+    default: return put(c, l);
     }
 }
 
@@ -45,7 +58,11 @@ static uint64_t plain_answer(const struct call *c, const struct lent *l, struct 
     case KIND: return plain_monitor_kind(plain, c->number);
     case VALUE: return bits(plain_monitor_value(plain, c->number));
     case LIMITS: return plain_limits_refusal(plain, c->number);
-    default: return bits(plain_limit(plain, c->number, c->which));
+    case LIMIT: return bits(plain_limit(plain, c->number, c->which));
+    case LOG_ADD: return plain_log_add(l->state, l->state_len, c->number, l->first, c->first.len);
+    case LOG_POWER_UP: return plain_log_power_up(l->state, l->state_len, c->number);
+    case LOG_SAMPLE: return plain_log_sample(l->state, l->state_len, c->number, c->which);
+    default: return put(c, l);
     }
 }
 

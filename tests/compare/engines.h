@@ -6,9 +6,9 @@
 
 #include "../plain/plain.h"
 
-/* The memory that a call works on. The plain engine keeps its state itself. */
+/* The memory that a call works on. The plain engine keeps a module's state itself; its log is lent, as the library's. */
 struct lent {
-    uint8_t *state;
+    uint8_t *state;                 /* or the log */
     size_t state_len;
     const uint8_t *first, *second;
     uint8_t *out;

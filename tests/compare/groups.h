@@ -1,4 +1,4 @@
-/* groups.h: the groups of cases, in the order in which they are run. */
+/* groups.h: the groups of cases: the module's, in the order in which they are run, and the log's. */
 #ifndef GROUPS_H
 #define GROUPS_H
 
@@ -19,5 +19,12 @@ void group_starts(void);        /* the other placements: right after unreadable 
 void group_odd(void);           /* and at odd addresses */
 void group_histories(void);     /* random calls */
 void group_demand_3(void);      /* pairs of runs, on the library alone */
+
+void group_log_refusals(void);  /* every set of refusals at once */
+void group_log_blocks(void);    /* logs that grow, counts, numbers, sums */
+void group_log_lengths(void);   /* lengths, used numbers and positions, at their ends too */
+void group_log_damage(void);    /* every byte changed */
+void group_log_histories(void); /* random calls */
+void group_log_far(void);       /* a log of more than 2^24 bytes */
 
 #endif

@@ -64,7 +64,7 @@ static void report(uint64_t histories)
 {
     char line[700];
     int used = snprintf(line, sizeof line, " in %" PRIu64 " histories; accepted and refused:", histories);
-    for (int kind = 0; kind < KINDS; kind++) {
+    for (int kind = 0; kind < LOG_ADD; kind++) {
         if (!accepted[kind] || !refused[kind])
             fail("%s was never %s", text_word((enum kind)kind), accepted[kind] ? "refused" : "accepted");
         used += snprintf(line + used, sizeof line - (size_t)used, " %s %" PRIu64 " %" PRIu64 ",", text_word((enum kind)kind),

@@ -3,8 +3,9 @@
  *   compare [--calls N | --seconds N] [--pairs N] [--seed N] [--first] [--only GROUP] IMAGE
  *   compare again FILE
  *
- * IMAGE is a factory image, 640 two-digit hexadecimal numbers. --calls and --seconds are for the random histories, --pairs for
- * the pairs of runs of demand 3; --first ends at the first group that fails. `again` reads what is printed of a mismatch. */
+ * IMAGE is a factory image, 640 two-digit hexadecimal numbers. --calls and --seconds are for the module's random histories, and
+ * those of a log take a part as much; --pairs is for the pairs of runs of demand 3; --first ends at the first group that fails.
+ * `again` reads what is printed of a mismatch. */
 #include "again.h"
 #include "check.h"
 #include "groups.h"
@@ -19,11 +20,13 @@ static const struct group {
     const char *name;
     void (*run)(void);
 } groups[] = {
-    { "refusals", group_refusals }, { "histories", group_histories }, { "lengths", group_lengths }, { "vast", group_vast },
+    { "refusals", group_refusals }, { "log-blocks", group_log_blocks }, { "log-refusals", group_log_refusals },
+    { "log-histories", group_log_histories }, { "log-lengths", group_log_lengths },
+    { "histories", group_histories }, { "lengths", group_lengths }, { "vast", group_vast },
     { "ends", group_ends }, { "identity", group_identity }, { "reset", group_reset }, { "select", group_select },
     { "sample", group_sample }, { "write", group_write }, { "limits", group_limits }, { "records", group_records },
     { "monitors", group_monitors }, { "read", group_read }, { "starts", group_starts }, { "odd", group_odd },
-    { "demand-3", group_demand_3 },
+    { "log-damage", group_log_damage }, { "log-far", group_log_far }, { "demand-3", group_demand_3 },
 };
 enum { GROUPS = sizeof groups / sizeof groups[0] };
 
@@ -35,6 +38,9 @@ static void elsewhere(enum place place)
     group_lengths();
     group_ends();
     group_select();
+    group_log_refusals();
+    group_log_blocks();
+    group_log_lengths();
     place_at(AT_END);
 }
 

@@ -38,29 +38,29 @@ void memory_prepare(void)
     }
 }
 
-/* Vast memory; of output memory the front, wherever it starts, can be written to. */
-static uint8_t *vast_end(bool output)
+/* Vast memory; where a call may change it the front, wherever it starts, can be written to. */
+static uint8_t *vast_end(enum part part)
 {
     uint8_t *end = mapped(VAST + UNREADABLE, PROT_READ);
-    if (output && mprotect(end - VAST - UNREADABLE, 2 * UNREADABLE, PROT_READ | PROT_WRITE)) {
+    if ((part == STATE || part == OUTPUT) && mprotect(end - VAST - UNREADABLE, 2 * UNREADABLE, PROT_READ | PROT_WRITE)) {
         perror("compare: memory cannot be made writable");
         exit(2);
     }
     return end;
 }
 
-uint8_t *memory_vast_output(size_t len)
+uint8_t *memory_vast_plain(enum part part, size_t len)
 {
-    static uint8_t *end;
-    if (!end)
-        end = vast_end(true);
-    return end - len;
+    static uint8_t *ends[PARTS];
+    if (!ends[part])
+        ends[part] = vast_end(part);
+    return ends[part] - len;
 }
 
 static uint8_t *vast_lent(enum part part, size_t len)
 {
     if (!regions[part].vast_high)
-        regions[part].vast_high = vast_end(part == OUTPUT);
+        regions[part].vast_high = vast_end(part);
     regions[part].before = regions[part].after = NULL;
     return regions[part].vast_high - len;
 }

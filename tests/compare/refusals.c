@@ -9,17 +9,28 @@
 
 #include <string.h>
 
-static bool tried[1 << 14];
+static bool tried[1 << 18];
 static unsigned sets, impossible;
 
-/* Document 01: the lowest number wins, with one exception: 12 comes before 11. */
+/* Document 01: the lowest number wins, with one exception: 12 comes before 11. Document 02: 15 comes before 14. */
 static unsigned picked(unsigned set)
 {
-    static const uint8_t order[] = { 1, 2, 3, 4, 5, 6, 7, 8, 9, 10, 12, 11, 13 };
+    static const uint8_t order[] = { 1, 2, 3, 4, 5, 6, 7, 8, 9, 10, 12, 11, 13, 15, 14, 17 };
     for (size_t i = 0; i < COUNT(order); i++)
         if (set & R(order[i]))
             return order[i];
     return 0;
+}
+
+void begin_sets(void)
+{
+    sets = impossible = 0;
+    memset(tried, 0, sizeof tried);
+}
+
+void say_sets(void)
+{
+    say(", %u sets of refusals, %u of which cannot exist", sets, impossible);
 }
 
 void try_set(struct call call, unsigned set)
@@ -142,10 +153,9 @@ static void write_sets(void)
 void group_refusals(void)
 {
     random_seed(options.seed);
-    sets = impossible = 0;
-    memset(tried, 0, sizeof tried);
+    begin_sets();
     read_sets();
     write_sets();
     refusals_of_the_rest();
-    say(", %u sets of refusals, %u of which cannot exist", sets, impossible);
+    say_sets();
 }

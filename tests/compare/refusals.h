@@ -7,7 +7,11 @@
 
 #define R(number) (1u << (number))
 
-/* Makes a call to which exactly this set applies; its answer has to be the one that document 01's order picks. */
+/* Before the first set of a group, and what to say after its last one: how many there were. */
+void begin_sets(void);
+void say_sets(void);
+
+/* Makes a call to which exactly this set applies; its answer has to be the one that the papers' order picks. */
 void try_set(struct call call, unsigned set);
 /* Of a call whose answer has no room for a refusal: 0.0 has to be given if any applies. */
 void try_set_of_double(struct call call, unsigned set);

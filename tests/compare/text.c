@@ -8,7 +8,10 @@
 #include <string.h>
 
 static const char *const places[PLACES] = { "end", "start", "odd" };
-static const char *const words[KINDS] = { "reset", "sample", "read", "write", "identity", "kind", "value", "limits", "limit" };
+static const char *const words[KINDS] = {
+    "reset", "sample", "read", "write", "identity", "kind", "value", "limits", "limit", "log-add", "log-power-up", "log-sample",
+    "put",
+};
 
 const char *text_word(enum kind kind)
 {
@@ -54,7 +57,15 @@ static void print_call(const struct call *call, FILE *to)
         fprintf(to, " %" PRIx64, call->number);
         break;
     case LIMIT:
+    case LOG_SAMPLE:
         fprintf(to, " %" PRIx64 " %" PRIx64, call->number, call->which);
+        break;
+    case LOG_ADD:
+        fprintf(to, " %" PRIx64, call->number);
+        print_bytes(call->first, to);
+        break;
+    case PUT:
+        fprintf(to, " %" PRIx64 " %02x", call->number, call->fill);
         break;
     default:
         fprintf(to, " %" PRIx64, call->number);
@@ -139,7 +150,14 @@ static bool parse_call(char **word, struct call *call)
         return parse_bytes(word[1], first, &call->first) && parse_bytes(word[2], second, &call->second) &&
                parse_number(word[3], UINT64_MAX, &call->number) && !word[4];
     case LIMIT:
+    case LOG_SAMPLE:
         return parse_number(word[1], UINT64_MAX, &call->number) && parse_number(word[2], UINT64_MAX, &call->which) && !word[3];
+    case LOG_ADD:
+        return parse_number(word[1], UINT64_MAX, &call->number) && parse_bytes(word[2], first, &call->first) && !word[3];
+    case PUT:
+        right = parse_number(word[1], UINT64_MAX, &call->number) && parse_number(word[2], 255, &fill) && !word[3];
+        call->fill = (uint8_t)fill;
+        return right;
     default:
         return parse_number(word[1], UINT64_MAX, &call->number) && !word[2];
     }

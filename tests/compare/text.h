@@ -1,6 +1,6 @@
 /* text.h: the text form of a case, a line for its beginning and a line for each call since. Numbers are hexadecimal.
  *
- *   begin end|start|odd STATE           where what is lent lies: see memory.h
+ *   begin end|start|odd STATE           where what is lent lies: see memory.h; before calls on a log the log stands for STATE
  *   reset IMAGE
  *   sample SAMPLE
  *   read PORT ADDRESS COUNT OUTPUT FILL OUTPUT is the length of the output memory, or null; FILL is what it holds before the call
@@ -10,6 +10,10 @@
  *   value NUMBER
  *   limits QUANTITY
  *   limit QUANTITY WHICH
+ *   log-add USED SAMPLE
+ *   log-power-up USED
+ *   log-sample USED POSITION
+ *   put PLACE BYTE                      no call: a byte of the state or of the log becomes BYTE
  *   # words
  *
  * Bytes are two digits each without a space; `-` is no bytes, `null` no bytes at a null pointer, `zeros:LENGTH` vast memory. */

@@ -1,4 +1,4 @@
-/* header.c: what zikhrodan.h names and takes apart, compiled as C and as C++. It is compared with document 01's numbers.
+/* header.c: what zikhrodan.h names and takes apart, compiled as C and as C++. It is compared with the papers' numbers.
  *
  * Prints a line for each check that fails, and 'N passed, M failed'; exit status 1 if M > 0. */
 #include <stdio.h>
@@ -17,18 +17,22 @@ static void check(const char *what, int right)
     }
 }
 
-/* Each refusal has words of its own, and no other number has. */
+/* Each refusal has words of its own, and no other number has; 16 is none. */
 static void words(void)
 {
-    const char *unknown = zikhrodan_words(14);
-    for (uint32_t n = 0; n <= 13; n++)
+    const char *unknown = zikhrodan_words(16);
+    for (uint32_t n = 0; n <= 17; n++)
         for (uint32_t other = 0; other < n; other++)
             check("two refusals have different words", strcmp(zikhrodan_words(n), zikhrodan_words(other)) != 0);
-    for (uint32_t n = 0; n <= 13; n++)
-        check("a refusal has words", strlen(zikhrodan_words(n)) > 0 && strcmp(zikhrodan_words(n), unknown) != 0);
+    for (uint32_t n = 0; n <= 17; n++)
+        check("a refusal has words", strlen(zikhrodan_words(n)) > 0 && (strcmp(zikhrodan_words(n), unknown) != 0) == (n != 16));
+    check("18 is no refusal", strcmp(zikhrodan_words(18), unknown) == 0);
     check("255 is no refusal", strcmp(zikhrodan_words(255), unknown) == 0);
     check("2^32 - 1 is no refusal", strcmp(zikhrodan_words(0xffffffff), unknown) == 0);
     check("7 is the recorder's", strstr(zikhrodan_words(7), "recorder") != NULL);
+    check("14 is for want of a block", strstr(zikhrodan_words(14), "new block") != NULL);
+    check("15 is the log's", strstr(zikhrodan_words(15), "log") != NULL);
+    check("17 is the position's", strstr(zikhrodan_words(17), "position") != NULL);
 }
 
 /* An answer with another number in each of its four bytes. */
@@ -43,6 +47,16 @@ static void parts(void)
     check("start", zikhrodan_identity_start(answer) == 11);
     check("length", zikhrodan_identity_length(answer) == 10);
     check("kind", zikhrodan_kind_of(answer) == ZIKHRODAN_DEGREES);
+}
+
+/* An answer of the log's calls with all its bits used, and two of one part alone. */
+static void parts_of_log(void)
+{
+    const uint64_t answer = UINT64_C(0xf0e0d0c0b0a09011);
+    check("refusal of the log", zikhrodan_log_refusal(answer) == ZIKHRODAN_NO_SUCH_SAMPLE);
+    check("value", zikhrodan_log_value(answer) == UINT64_C(0xf0e0d0c0b0a090));
+    check("refused", zikhrodan_log_refusal(14) == ZIKHRODAN_LOG_FULL && zikhrodan_log_value(14) == 0);
+    check("accepted", zikhrodan_log_refusal(256) == ZIKHRODAN_ACCEPTED && zikhrodan_log_value(256) == 1);
 }
 
 /* The names against what the library answers to them. */
@@ -86,11 +100,34 @@ static void names(void)
     check("3", zikhrodan_sample(state, sizeof state, sample, ZIKHRODAN_SAMPLE_LEN) == ZIKHRODAN_UNSOUND_RECORD);
 }
 
+/* The log's names likewise: two blocks of memory, filled. */
+static void names_of_log(void)
+{
+    static const uint8_t none[ZIKHRODAN_BLOCK_LEN] = {0, 0, 0, 1};
+    uint8_t log[2 * ZIKHRODAN_BLOCK_LEN] = {0}, sample[ZIKHRODAN_SAMPLE_LEN + 1] = {1, 2, 3};
+    uint64_t used = 0, start;
+
+    used = zikhrodan_log_value(zikhrodan_log_power_up(log, sizeof log, used));
+    check("power-up", used == 1 && memcmp(log, none, sizeof none - 1) == 0 && log[ZIKHRODAN_BLOCK_LEN - 1] == 1);
+    for (unsigned n = 0; n <= ZIKHRODAN_BLOCK_SAMPLES; n++)
+        used = zikhrodan_log_value(zikhrodan_log_add(log, sizeof log, used, sample, ZIKHRODAN_SAMPLE_LEN));
+    check("add", used == 2 && log[4] == ZIKHRODAN_BLOCK_SAMPLES && log[ZIKHRODAN_BLOCK_LEN + 4] == 1);
+    start = zikhrodan_log_value(zikhrodan_log_sample(log, sizeof log, used, ZIKHRODAN_BLOCK_SAMPLES));
+    check("a position", start == ZIKHRODAN_BLOCK_LEN + 5 && memcmp(log + start, sample, ZIKHRODAN_SAMPLE_LEN) == 0);
+    check("17", zikhrodan_log_sample(log, sizeof log, used, ZIKHRODAN_BLOCK_SAMPLES + 1) == ZIKHRODAN_NO_SUCH_SAMPLE);
+    check("14", zikhrodan_log_power_up(log, sizeof log, used) == ZIKHRODAN_LOG_FULL);
+    check("8, of the log", zikhrodan_log_add(log, sizeof log, used, sample, sizeof sample) == ZIKHRODAN_SAMPLE_SIZE);
+    check("15", zikhrodan_log_add(log, sizeof log - 1, used, sample, ZIKHRODAN_SAMPLE_LEN) == ZIKHRODAN_UNSOUND_LOG);
+    check("no log", zikhrodan_log_sample(NULL, 0, 0, 0) == ZIKHRODAN_NO_SUCH_SAMPLE);
+}
+
 int main(void)
 {
     words();
     parts();
+    parts_of_log();
     names();
+    names_of_log();
     printf("%u passed, %u failed\n", passed, failed);
     return failed > 0;
 }

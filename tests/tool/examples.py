@@ -25,17 +25,27 @@ def helped(word):
 
 
 def commands_of(text):
-    """The commands that the general help lists."""
-    return re.findall(r"^  (\w+) +(?:STATE|\[)", text, re.M)
+    """The commands that a help lists."""
+    return re.findall(r"^  ([a-z][a-z-]*) +(?:STATE|COMMAND|FILE|\[)", text, re.M)
+
+
+def all_commands():
+    """Each command's words; of one that has commands of its own, these come after it."""
+    names = []
+    for name in commands_of(helped(["--help"])):
+        names += [(name,)] + [(name, part) for part in commands_of(helped([name, "--help"]))]
+    return names
 
 
 def commands(folder, checks):
-    names = commands_of(helped(["--help"]))
-    checks.same("zikhrodan --help lists seven commands", 7, len(names))
-    for name in names:
-        place = scratch(folder / f"help-{name}")
+    names = all_commands()
+    checks.same("zikhrodan --help lists eight commands, of which one has four of its own", (8, 4),
+                tuple(sum(len(words) == count for words in names) for count in (1, 2)))
+    for words in names:
+        name = " ".join(words)
+        place = scratch(folder / f"help-{'-'.join(words)}")
         checks.same(f"before the examples of {name}: {KEEP.command}", [], seen(KEEP, place))
-        play_all(Transcript(helped([name, "--help"])), place, f"zikhrodan {name} --help", checks)
+        play_all(Transcript(helped([*words, "--help"])), place, f"zikhrodan {name} --help", checks)
 
 
 def documents(folder, checks):

@@ -17,12 +17,12 @@ ASKED = (signal.SIGTERM, signal.SIGINT, signal.SIGHUP)
 
 
 def end(process, how=signal.SIGKILL):
-    """Ends a process and its children by a signal, and waits for it."""
+    """Ends a process and its children by a signal, and waits for it; gives what it has printed."""
     try:
         os.killpg(process.pid, how)
     except ProcessLookupError:
         pass
-    process.communicate(timeout=PATIENCE)
+    return process.communicate(timeout=PATIENCE)[0]
 
 
 def usual_time(kept):

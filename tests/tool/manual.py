@@ -2,11 +2,12 @@
 import re
 import subprocess
 
-from examples import commands_of, helped
+from examples import all_commands, helped
 from transcript import ROOT, Step, scratch, seen
 
 PAGE = ROOT / "station" / "zikhrodan.1"
 OPTION = re.compile(r"(?<![\w-])--[a-z]+")
+NAME = r"[a-z]+(?: [a-z][a-z-]*)?"
 
 
 def run(folder, checks):
@@ -14,14 +15,16 @@ def run(folder, checks):
     checks.same("the manual page is laid out without a warning", (0, ""), (done.returncode, done.stderr))
     source = PAGE.read_text(encoding="ascii").replace("\\-", "-")
     synopsis = re.sub(r"\\f[A-Z]", "", source.split(".SH SYNOPSIS")[1].split(".SH ")[0])
-    names = commands_of(helped(["--help"]))
-    checks.same("its synopsis has the commands", names, re.findall(r"^zikhrodan (\w+)", synopsis, re.M))
+    words = all_commands()
+    whole = {first for first, *rest in words if rest}
+    names = [" ".join(own) for own in words if len(own) > 1 or own[0] not in whole]
+    checks.same("its synopsis has the commands", names, re.findall(rf"^zikhrodan ({NAME})", synopsis, re.M))
     parts = source.split(".SH COMMANDS")[1].split(".SH ")[0]
-    checks.same("each has a part of its own", names, re.findall(r"^\.TP\n\.B (\w+)\n", parts, re.M))
+    checks.same("each has a part of its own", names, re.findall(rf"^\.TP\n\.B ({NAME})\n", parts, re.M))
     with checks.group("the synopsis has the words and options of each command's --help") as group:
         for name in names:
             line = " ".join(re.search(rf"^zikhrodan {name}(.*(?:\n .*)*)", synopsis, re.M).group(1).split())
-            text = helped([name, "--help"])
+            text = helped([*name.split(), "--help"])
             usage = re.match(rf"usage: zikhrodan {name} ?(.*)", text).group(1)
             options = set(OPTION.findall(text.split("\nExamples")[0]))
             group.same(f"{name}: options", options, set(OPTION.findall(line)))

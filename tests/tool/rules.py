@@ -1,4 +1,4 @@
-"""rules.py: the tool decides nothing: the numbers of document 01's rules do not stand in its sources, nor is a limit compared.
+"""rules.py: the tool decides nothing: the numbers of the documents' rules do not stand in its sources, nor is a limit compared.
 
 Comments and text in quotes are left out; what is looked at is the C code's words, numbers and signs.
 """
@@ -6,8 +6,8 @@ import re
 
 from transcript import ROOT
 
-# Addresses that a rule of document 01 is about, and where they lie in the state. Where a flag lies, and where a sample's numbers
-# are stored, is what show needs.
+# Addresses that a rule of document 01 is about, and where they lie in the state; numbers of document 02's log. Where a flag lies,
+# and where a sample's numbers are stored, is what show needs.
 RULES = {
     "the masks": {*range(100, 105), *range(242, 248), *range(626, 632), *range(652, 663), *range(676, 687)},
     "the thresholds": {144, 176, 184, 192, 512, 528, 560, 568, 576},
@@ -15,6 +15,7 @@ RULES = {
     "whether Tx power is offered": {220},
     "the shared list": {86, 87, 88, 93, 98, *range(234, 242)},
     "what reads 0": set(range(119, 127)),
+    "where a log's block has its sum, and the last number": {*range(501, 511), 4294967295},
 }
 # Code that has such a number for another reason: its file, its text, the reason.
 EXEMPT = (
@@ -59,7 +60,8 @@ def comparisons(code, limits):
 def trials(checks):
     """What the check is to see, in an edit on trial, and what it is not to."""
     with checks.group("an edit that brings a rule in is seen; a comment, a text or another number is not") as group:
-        for code in ("if (address == 100)", "x = 0x64u;", "state[0xC3] & 0x40", "{220, 1}", "i < 0173", "1 + 247UL"):
+        for code in ("if (address == 100)", "x = 0x64u;", "state[0xC3] & 0x40", "{220, 1}", "i < 0173", "1 + 247UL", "block[510]",
+                     "number == 0xFFFFFFFFu"):
             group.same(code, 1, len(numbers(bare(code))))
         for code in ("/* 100 */ x = 1;", 'puts("byte 100");', "x = 1000;", "// 220\n", "y = x100;", "c = 'd';", "1.100"):
             group.same(code, [], numbers(bare(code)))
@@ -81,6 +83,6 @@ def run(_folder, checks):
         texts[name] = texts.get(name, "").replace(code, "")
     limits = limits_in(map(bare, texts.values()))
     for name, text in texts.items():
-        with checks.group(f"station/{name} has no rule of document 01, and compares no limit") as group:
+        with checks.group(f"station/{name} has no rule of the documents, and compares no limit") as group:
             group.same("numbers", [], numbers(bare(text)))
             group.same("comparisons", [], comparisons(bare(text), limits))

@@ -9,6 +9,7 @@ import signal
 import subprocess
 import time
 
+import logs
 from station import CALM, LOSS, PATIENCE, SECOND, Kept, command, settled, start, waits
 from transcript import environment
 
@@ -48,10 +49,16 @@ class Terminal:
         return self.process.returncode, shown, *piped
 
 
+def with_log(kept):
+    """The state, and beside it a log that has its sample."""
+    (kept.folder / "loss.log").write_bytes(logs.file_of(1, logs.blocks_of([LOSS])))
+    return kept
+
+
 def colours(folder, checks):
-    kept = Kept(folder / "colours")
+    kept = with_log(Kept(folder / "colours"))
     for words in (("demo",), ("read", "module.state", "recorder", 2, 1), ("watch", "module.state", "loss.rows"),
-                  ("show", "module.state"), ("show", "module.state", "--hex")):
+                  ("show", "module.state"), ("show", "module.state", "--hex"), ("log", "show", "loss.log")):
         with checks.group(f"{words[0]}: colours on a terminal; none with NO_COLOR (also empty), TERM=dumb, in a pipe") as group:
             kept.put()
             plain = subprocess.run(command(*words), check=True, **settled(kept.folder)).stdout.decode()
@@ -130,13 +137,15 @@ def waiting(folder, checks):
 
 def typed(folder, checks):
     with checks.group("rows from a terminal are refused in words, status 2, and nothing is changed") as group:
-        kept = Kept(folder / "typed")
-        for words in (("sample", "module.state"), ("watch", "module.state", "-"), ("sample", "module.state", "loss.rows", "-")):
+        kept = with_log(Kept(folder / "typed"))
+        for words in (("sample", "module.state"), ("watch", "module.state", "-"), ("sample", "module.state", "loss.rows", "-"),
+                      ("log", "add", "loss.log"), ("sample", "--log", "loss.log", "module.state", "-")):
             terminal = Terminal(kept.folder, *words, on=("stdin",))
             status, _, said, complaint = terminal.end()
             group.same(words, (2, "", "zikhrodan: standard input is a terminal: name a file of rows, or pipe rows in\n"),
                        (status, said, complaint))
             group.same(f"{words}: the 688 bytes", True, kept.agrees())
+            group.same(f"{words}: the log", [LOSS], logs.samples_of(kept.folder / "loss.log"))
 
 
 def run(folder, checks):

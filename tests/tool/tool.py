@@ -13,6 +13,10 @@ import examples
 import keys
 import kills
 import links
+import log_hardships
+import log_kills
+import log_power
+import log_together
 import manual
 import outputs
 import pauses
@@ -24,7 +28,7 @@ import together
 from bench import Checks
 
 PARTS = {part.__name__: part for part in (rules, manual, stored, examples, keys, outputs, disk, synced, kills, together, pauses,
-                                           links, terminals)}
+                                           links, terminals, log_kills, log_power, log_together, log_hardships)}
 
 
 def main(names):

@@ -1,8 +1,9 @@
--- What the functions that C calls promise: the model's contracts (model/specs/Contracts.antt), the numbers packed into one.
+-- What the functions that C calls promise: the contracts of model/specs and log/specs, the numbers packed into one.
 -- Assumes nothing.
-use Rattle.laws.specs.Words.{ℕ, _≡_, List}
+use Rattle.laws.specs.Words.{ℕ, _/_, _≡_, List}
 use Rattle.model.specs.Ports.{Call}
 use Rattle.model.specs.Contracts.{Reported, ReadDone, WriteDone, Located, monitorTold}
+use Rattle.log.specs.Contracts.{Added, Opened, Placed}
 use Rattle.packing.specs.Packing.{bits0, bits8, bits16, bits24, refusalIn, kindIn}
 
 -- ---- the calls that are lent the state to change it
@@ -33,3 +34,21 @@ pub record KindPacked (s : List ℕ) (n answer : ℕ) : Type 0 where
   pub refusal-is : bits0 answer ≡ refusalIn (monitorTold s n)
   pub kind-is : bits8 answer ≡ kindIn (monitorTold s n)
   pub rest-is : (bits16 answer ≡ 0) × (bits24 answer ≡ 0)
+
+-- ---- a log of samples
+
+-- what stands beside the refusal: bits 8 to 63
+abbrev pub value : ℕ → ℕ
+value r = r / 256
+
+-- a sample added: the refusal, the used number after it
+abbrev pub AddPacked : List ℕ → ℕ → List ℕ → ℕ → List ℕ → Type 0
+AddPacked log used x answer left = Added log used x (bits0 answer) (value answer) left
+
+-- a power-up, likewise
+abbrev pub OpenPacked : List ℕ → ℕ → ℕ → List ℕ → Type 0
+OpenPacked log used answer left = Opened log used (bits0 answer) (value answer) left
+
+-- where the sample at a position begins: the refusal, the place
+abbrev pub SamplePacked : List ℕ → ℕ → ℕ → ℕ → Type 0
+SamplePacked log used k answer = Placed log used k (bits0 answer) (value answer)

@@ -1,11 +1,12 @@
-// The C face: the calls of `module` and `readout` under the names of include/zikhrodan.h, over numbers and byte slices. A slice is a
-// pointer and then a length; an answer of several numbers is packed into one.
-// Proved: each answer, and each byte left, is the model's, through the calls' own contracts (specs/Face.antt).
+// The C face: the calls of `module`, `readout`, `logging` and `finding` under the names of include/zikhrodan.h, over numbers and byte
+// slices. A slice is a pointer and then a length; an answer of several numbers is packed into one.
+// Proved: each answer, and each byte left, is that of the definitions, through the calls' own contracts (specs/Face.antt).
 ghost use mathlib.Core.Path.{_≡_};
+ghost use Prim.Native.Nat.{_<_};
 ghost use Rattle.model.specs.Ports.{reset, sample};
 ghost use Rattle.model.specs.Contracts.{monitorTold, limitsTold};
-ghost use Rattle.packing.specs.Packing.{refusalIn, valueIn, limitIn};
-ghost use Rattle.bridge.specs.Face.{ReportPacked, ReadPacked, WritePacked, PlacePacked, KindPacked};
+ghost use Rattle.packing.specs.Packing.{bits0, refusalIn, valueIn, limitIn};
+ghost use Rattle.bridge.specs.Face.{ReportPacked, ReadPacked, WritePacked, PlacePacked, KindPacked, AddPacked, OpenPacked, SamplePacked, value};
 
 // ---- the calls that are lent the state to change it
 
@@ -84,4 +85,38 @@ pub extern "C" fn zikhrodan_limit(state: &[u8], quantity: u64, which: u64) -> f6
     ensures { λ r. ⌜ r ≡ limitIn (limitsTold (now (state .entry)) quantity) which ⌝ }
 {
     packing::limit(readout::limits(state, quantity), which)
+}
+
+// ---- a log of samples
+
+// A refusal and a value beside it in one number.
+fn told(refusal: u8, n: u64) -> u64
+    requires { ⌜ n < 72057594037927936 ⌝ }
+    ensures { λ r. ⌜ (bits0 r ≡ refusal) × (value r ≡ n) ⌝ }
+{
+    refusal as u64 + 256 * n
+}
+
+#[no_mangle]
+pub extern "C" fn zikhrodan_log_add(log: &mut [u8], used: u64, sample: &[u8]) -> u64
+    ensures { λ r. ⌜ AddPacked (now (log .entry)) used (now (sample .entry)) r (now (log .exit)) ⌝ }
+{
+    let k = logging::add(log, used, sample);
+    told(k.refusal, k.used)
+}
+
+#[no_mangle]
+pub extern "C" fn zikhrodan_log_power_up(log: &mut [u8], used: u64) -> u64
+    ensures { λ r. ⌜ OpenPacked (now (log .entry)) used r (now (log .exit)) ⌝ }
+{
+    let k = logging::power_up(log, used);
+    told(k.refusal, k.used)
+}
+
+#[no_mangle]
+pub extern "C" fn zikhrodan_log_sample(log: &[u8], used: u64, position: u64) -> u64
+    ensures { λ r. ⌜ SamplePacked (now (log .entry)) used position r ⌝ }
+{
+    let f = finding::sample_place(log, used, position);
+    told(f.refusal, f.start)
 }

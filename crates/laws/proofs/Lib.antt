@@ -3,6 +3,8 @@ pub mod Rows
 pub mod Finite
 pub mod Bits
 pub mod Lists
+pub mod Parts
+pub mod Zeros
 pub mod Fronts
 pub mod Runs
 pub mod Sums

@@ -1,0 +1,44 @@
+-- The C face of a log: any two outcomes that a contract allows are equal, and a refused call answers its refusal's number alone.
+-- Assumes nothing.
+use mathlib.Core.Path.{_≡_, _∙_}
+use mathlib.Core.Logic.{_≢_}
+use mathlib.Core.List.{List}
+use Prim.Native.Nat.{ℕ}
+use native.Mathlib.Omega.{arith}
+use Rattle.log.specs.Contracts.{addRefusal, powerUpRefusal, sampleRefusal}
+use Rattle.log.proofs.Contracts.{added-unique, opened-unique, placed-unique, add-refused, power-up-refused, sample-refused}
+use Rattle.packing.specs.Packing.{bits0}
+use Rattle.bridge.specs.Face.{value, AddPacked, OpenPacked, SamplePacked}
+
+-- ---- the refusal and the value beside it are the whole answer
+
+told-unique : (x y : ℕ) → bits0 x ≡ bits0 y → value x ≡ value y → x ≡ y
+told-unique x y a b = omega arith
+
+pub add-packed-unique : {log : List ℕ} {used : ℕ} {s : List ℕ} {x y : ℕ} {t u : List ℕ} → AddPacked log used s x t → AddPacked log used s y u → (x ≡ y) × (t ≡ u)
+add-packed-unique {x = x} {y = y} p q = let e = added-unique p q in (told-unique x y (e .0) (e .1), e .2)
+
+pub open-packed-unique : {log : List ℕ} {used x y : ℕ} {t u : List ℕ} → OpenPacked log used x t → OpenPacked log used y u → (x ≡ y) × (t ≡ u)
+open-packed-unique {x = x} {y = y} p q = let e = opened-unique p q in (told-unique x y (e .0) (e .1), e .2)
+
+pub sample-packed-unique : {log : List ℕ} {used k x y : ℕ} → SamplePacked log used k x → SamplePacked log used k y → x ≡ y
+sample-packed-unique {x = x} {y = y} p q = let e = placed-unique p q in told-unique x y (e .0) (e .1)
+
+-- ---- a refused call changes no byte and answers its refusal's number alone
+told-alone : (x : ℕ) → value x ≡ 0 → x ≡ bits0 x
+told-alone x e = omega arith
+
+pub add-packed-refused : {log : List ℕ} {used : ℕ} {s : List ℕ} {x : ℕ} {t : List ℕ} → AddPacked log used s x t → bits0 x ≢ 0 → (x ≡ addRefusal log used s) × (t ≡ log)
+add-packed-refused {log} {used} {s} {x} p r =
+    let e = added-unique p (add-refused log used s (bits0 x) (p .refusal-is) r) in
+    (told-alone x (e .1) ∙ p .refusal-is, e .2)
+
+pub open-packed-refused : {log : List ℕ} {used x : ℕ} {t : List ℕ} → OpenPacked log used x t → bits0 x ≢ 0 → (x ≡ powerUpRefusal log used) × (t ≡ log)
+open-packed-refused {log} {used} {x} p r =
+    let e = opened-unique p (power-up-refused log used (bits0 x) (p .refusal-is) r) in
+    (told-alone x (e .1) ∙ p .refusal-is, e .2)
+
+pub sample-packed-refused : {log : List ℕ} {used k x : ℕ} → SamplePacked log used k x → bits0 x ≢ 0 → x ≡ sampleRefusal log used k
+sample-packed-refused {log} {used} {k} {x} p r =
+    let e = placed-unique p (sample-refused log used k (bits0 x) (p .refusal-is) r) in
+    told-alone x (e .1) ∙ p .refusal-is

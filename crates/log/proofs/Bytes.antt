@@ -1,0 +1,78 @@
+-- Memory of bytes stays memory of bytes.
+-- Assumes nothing.
+use mathlib.Core.Path.{_≡_, refl}
+use mathlib.Core.Bool.{false, _&&_}
+use mathlib.Core.List.{List, [], _∷_}
+use Prim.Native.Nat.{ℕ, zero, suc, _+_, _-_, _*_, _≤_, _<_}
+use native.Mathlib.Omega.{arith}
+use lib.Dec.{ltb, eqb}
+use lib.ListN.{length}
+use borrow.Author.Tests.{ltb-true, ltb-false}
+use Rattle.laws.specs.Tests.{if_then_else_, covers}
+use Rattle.laws.specs.Lists.{at, table, patch}
+use Rattle.laws.proofs.Tests.{case, if-elim}
+use Rattle.laws.proofs.Lists.{table-length, table-at, part-length, part-at}
+use Rattle.log.specs.Block.{blockSize, sampleSize, countAt, count, mostSamples, slot, roomEnd, checkOf, sealed, numberBytes, fresh, grown}
+use Rattle.log.specs.Log.{block, needsNew, noneLeft, put, newBlock, afterPowerUp, afterAdd, lastNumber}
+use Rattle.log.specs.Contracts.{Bytes}
+use Rattle.log.proofs.Blocks.{fresh-count}
+use Rattle.log.proofs.Fits.{Fit}
+use Rattle.log.proofs.Calls.{add-elim}
+
+-- past the end there is 0
+past-end : (s : List ℕ) (i : ℕ) → length s ≤ i → at s i ≡ 0
+past-end [] i h = refl
+past-end (x ∷ xs) zero h = absurd (omega arith)
+past-end (x ∷ xs) (suc i) h = past-end xs i (omega arith)
+
+pub bytes-table : (n : ℕ) (f : ℕ → ℕ) → ((i : ℕ) → i < n → f i < 256) → Bytes (table n f)
+bytes-table n f small i = case (ltb i n)
+    (λ t. let h = ltb-true i n t in rw (table-at n f i h) (small i h))
+    (λ t. let h = ltb-false i n t in rw (past-end (table n f) i (rw (table-length n f) h)) (omega arith))
+
+pub bytes-put : (log : List ℕ) (i : ℕ) (b : List ℕ) → Bytes log → Bytes b → Bytes (put log i b)
+unfolding put patch
+bytes-put log i b l s = bytes-table (length log) (λ j. if covers (blockSize * i) blockSize j then at b (j - blockSize * i) else at log j)
+    (λ j h. if-elim (λ n. n < 256) (covers (blockSize * i) blockSize j) (λ t. s (j - blockSize * i)) (λ t. l j))
+
+pub bytes-sealed : (f : ℕ → ℕ) → ((i : ℕ) → f i < 256) → Bytes (table blockSize (sealed f))
+unfolding sealed checkOf
+bytes-sealed f small = bytes-table blockSize (sealed f)
+    (λ i h. if-elim (λ n. n < 256) (ltb i 510)
+    (λ t. if-elim (λ n. n < 256) (ltb i roomEnd) (λ u. small i) (λ u. omega arith))
+    (λ t. if-elim (λ n. n < 256) (eqb i 510) (λ u. omega arith) (λ u. omega arith)))
+
+pub bytes-fresh : (n : ℕ) → Bytes (fresh n)
+unfolding fresh
+bytes-fresh n = bytes-sealed (at (numberBytes n)) (by n)
+  where
+    by : (n i : ℕ) → at (numberBytes n) i < 256
+    by n zero = omega arith
+    by n (suc zero) = omega arith
+    by n (suc (suc zero)) = omega arith
+    by n (suc (suc (suc zero))) = omega arith
+    by n (suc (suc (suc (suc i)))) = omega arith
+
+pub bytes-grown : (b x : List ℕ) → Bytes b → Bytes x → count b < mostSamples → Bytes (grown b x)
+unfolding grown
+bytes-grown b x l s h =
+    bytes-sealed (λ i. if eqb i countAt then suc (count b) else (if covers (slot (count b)) sampleSize i then at x (i - slot (count b)) else at b i))
+    (λ i. if-elim (λ n. n < 256) (eqb i countAt) (λ t. omega arith)
+    (λ t. if-elim (λ n. n < 256) (covers (slot (count b)) sampleSize i) (λ u. s (i - slot (count b))) (λ u. l i)))
+
+pub bytes-block : (log : List ℕ) (n : ℕ) → Bytes log → blockSize * n + blockSize ≤ length log → Bytes (block log n)
+bytes-block log n l h i = case (ltb i blockSize)
+    (λ t. rw (part-at (blockSize * n) blockSize log h i (ltb-true i blockSize t)) (l (blockSize * n + i)))
+    (λ t. let k = ltb-false i blockSize t in rw (past-end (block log n) i (rw (part-length (blockSize * n) blockSize log h) k)) (omega arith))
+
+-- after a power-up, and after an add that is not refused
+pub power-up-bytes : (log : List ℕ) (used : ℕ) → Bytes log → Bytes (afterPowerUp log used)
+power-up-bytes log used l = bytes-put log used (newBlock log used) l (bytes-fresh (suc (lastNumber log used)))
+
+pub add-bytes : (log : List ℕ) (used : ℕ) (x : List ℕ) → Bytes log → Bytes x → Fit log used → (needsNew log used && noneLeft log used) ≡ false → Bytes (afterAdd log used x)
+add-bytes log used x l s was free =
+    add-elim log used x (λ t n. Bytes t) free
+    (λ t q. bytes-put log used (grown (newBlock log used) x) l
+    (bytes-grown (newBlock log used) x (bytes-fresh (suc (lastNumber log used))) s (rw (fresh-count (suc (lastNumber log used))) (omega arith))))
+    (λ n e t r. let h = was .fits in
+    bytes-put log n (grown (block log n) x) l (bytes-grown (block log n) x (bytes-block log n l (omega arith)) s r))

@@ -1,0 +1,245 @@
+-- Document 02, Ask 1: what the calls on a log leave. A sound log stays sound, an accepted sample comes after those that were there, a
+-- power-up changes no sample, and nothing is changed but the last used block or the new one.
+-- Assumes nothing.
+use mathlib.Core.Path.{_≡_, refl, sym, ap, _∙_}
+use mathlib.Core.Logic.{_≢_}
+use mathlib.Core.Bool.{true, false, true≢false, not, _&&_}
+use mathlib.Core.List.{List, [], _∷_, _++_, append-assoc, append-nil}
+use Prim.Native.Nat.{ℕ, zero, suc, _+_, _-_, _*_, _≤_, _<_}
+use native.Mathlib.Omega.{arith}
+use lib.Dec.{leb, eqb}
+use lib.ListN.{length}
+use borrow.Author.Tests.{eqb-true, eqb-false, leb-false, not-true, not-false}
+use Rattle.laws.specs.Tests.{if_then_else_}
+use Rattle.laws.specs.Lists.{at}
+use Rattle.laws.proofs.Tests.{case, and-left, and-right, or-left, or-right}
+use Rattle.laws.proofs.Lists.{part-length, part-at}
+use Rattle.laws.proofs.Rows.{first-none}
+use Rattle.log.specs.Block.{blockSize, sampleSize, number, count, mostSamples, samplesIn, soundBlock, grown}
+use Rattle.log.specs.Log.{blocks, block, samples, lastNumber, needsNew, put, newBlock, afterPowerUp, afterAdd, usedAfter, wrongSample, unsound, noneLeft, addRows, powerUpRows}
+use Rattle.log.specs.Contracts.{addRefusal, powerUpRefusal, Bytes}
+use Rattle.log.proofs.Blocks.{fresh-length, fresh-count, fresh-samples, fresh-sound, fresh-number, grown-length, grown-number, grown-samples, grown-sound}
+use Rattle.log.proofs.Logs.{sound-less, sound-block, sound-follows, put-length, put-else, put-here}
+use Rattle.log.proofs.Fits.{Fit, fit, Next, next-of, next-new, put-fit, put-samples}
+
+-- ---- a power-up
+
+-- the last used block's number, where it is not the last of all
+pub next-small : (log : List ℕ) (used : ℕ) → Bytes log → used ≤ blocks log → lastNumber log used ≢ 4294967295 → suc (lastNumber log used) < 4294967296
+next-small log zero bytes h d = omega arith
+next-small log (suc n) bytes h d =
+    let byte : (i : ℕ) → i < blockSize → at (block log n) i < 256 = λ i l. rw (part-at (blockSize * n) blockSize log (omega arith) i l) (bytes (blockSize * n + i)) in
+    let b₀ = byte 0 (omega arith) in
+    let b₁ = byte 1 (omega arith) in
+    let b₂ = byte 2 (omega arith) in
+    let b₃ = byte 3 (omega arith) in
+    omega (arith, d)
+
+-- what is not refused 14
+pub left-over : (log : List ℕ) (used : ℕ) → noneLeft log used ≡ false → (used < blocks log) × (lastNumber log used ≢ 4294967295)
+left-over log used e = (
+  leb-false (blocks log) used (or-left (leb (blocks log) used) (eqb (lastNumber log used) 4294967295) e),
+  eqb-false (lastNumber log used) 4294967295 (or-right (leb (blocks log) used) (eqb (lastNumber log used) 4294967295) e),
+)
+
+module _ (log : List ℕ) (used : ℕ) (bytes : Bytes log) (was : Fit log used) (free : noneLeft log used ≡ false) where
+  small : suc (lastNumber log used) < 4294967296
+  small = next-small log used bytes (was .fits) (left-over log used free .1)
+
+  new-number : number (newBlock log used) ≡ suc (lastNumber log used)
+  new-number = fresh-number (suc (lastNumber log used)) small
+
+  -- the sound log stays sound, with one block more
+  pub power-up-sound : Fit (afterPowerUp log used) (suc used)
+  power-up-sound =
+      put-fit log used (was .whole) (left-over log used free .0) (was .good) (newBlock log used) (fresh-length (suc (lastNumber log used)))
+      (fresh-sound (suc (lastNumber log used))) (rw new-number (next-new log used))
+
+  -- "a power-up changes no sample"
+  pub power-up-samples : samples (afterPowerUp log used) (suc used) ≡ samples log used
+  power-up-samples =
+      put-samples log used (was .whole) (left-over log used free .0) (was .good) (newBlock log used) (fresh-length (suc (lastNumber log used)))
+      (fresh-sound (suc (lastNumber log used))) (rw new-number (next-new log used))
+      ∙ rw (fresh-samples (suc (lastNumber log used))) (append-nil (samples log used))
+
+  -- numbers rise by one
+  pub power-up-number : lastNumber (afterPowerUp log used) (suc used) ≡ suc (lastNumber log used)
+  power-up-number =
+      let room = left-over log used free .0 in
+      rw (put-here log used (newBlock log used) (fresh-length (suc (lastNumber log used))) (omega arith)) new-number
+
+-- ---- an add
+
+-- in a new block
+module _ (log : List ℕ) (used : ℕ) (x : List ℕ) (bytes : Bytes log) (was : Fit log used) (long : length x ≡ sampleSize) (free : noneLeft log used ≡ false) where
+  first : List ℕ
+  first = grown (newBlock log used) x
+
+  none : count (newBlock log used) < mostSamples
+  none = rw (fresh-count (suc (lastNumber log used))) (omega arith)
+
+  first-long : length first ≡ blockSize
+  unfolding first
+  first-long = grown-length (newBlock log used) x none long
+
+  first-fine : soundBlock first ≡ true
+  unfolding first
+  first-fine = grown-sound (newBlock log used) x none long (fresh-sound (suc (lastNumber log used)))
+
+  first-number : number first ≡ suc (lastNumber log used)
+  unfolding first
+  first-number = grown-number (newBlock log used) x none long ∙ new-number log used bytes was free
+
+  first-samples : samplesIn first ≡ x ∷ []
+  unfolding first
+  first-samples = grown-samples (newBlock log used) x none long (fresh-length (suc (lastNumber log used))) ∙ rw (fresh-samples (suc (lastNumber log used)))
+
+  new-fit : Fit (put log used first) (suc used)
+  new-fit = put-fit log used (was .whole) (left-over log used free .0) (was .good) first first-long first-fine (rw first-number (next-new log used))
+
+  new-samples : samples (put log used first) (suc used) ≡ samples log used ++ (x ∷ [])
+  new-samples =
+      put-samples log used (was .whole) (left-over log used free .0) (was .good) first first-long first-fine (rw first-number (next-new log used))
+      ∙ rw first-samples
+
+  new-last : lastNumber (put log used first) (suc used) ≡ suc (lastNumber log used)
+  new-last = let room = left-over log used free .0 in rw (put-here log used first first-long (omega arith)) first-number
+
+-- in the last block, block n
+module _ (log : List ℕ) (n : ℕ) (x : List ℕ) (was : Fit log (suc n)) (long : length x ≡ sampleSize) (room : count (block log n) < mostSamples) where
+  old-long : length (block log n) ≡ blockSize
+  old-long = let h = was .fits in part-length (blockSize * n) blockSize log (omega arith)
+
+  more : List ℕ
+  more = grown (block log n) x
+
+  more-long : length more ≡ blockSize
+  unfolding more
+  more-long = grown-length (block log n) x room long
+
+  more-fine : soundBlock more ≡ true
+  unfolding more
+  more-fine = grown-sound (block log n) x room long (sound-block log (suc n) n (omega arith) (was .good))
+
+  more-number : number more ≡ number (block log n)
+  unfolding more
+  more-number = grown-number (block log n) x room long
+
+  more-next : Next log n (number more)
+  more-next = rw more-number (next-of log n (sound-follows log (suc n) n (omega arith) (was .good)))
+
+  last-fit : Fit (put log n more) (suc n)
+  last-fit = put-fit log n (was .whole) (was .fits) (sound-less log n (suc n) (omega arith) (was .good)) more more-long more-fine more-next
+
+  last-samples : samples (put log n more) (suc n) ≡ samples log (suc n) ++ (x ∷ [])
+  unfolding more samples
+  last-samples =
+      put-samples log n (was .whole) (was .fits) (sound-less log n (suc n) (omega arith) (was .good)) more more-long more-fine more-next
+      ∙ rw (grown-samples (block log n) x room long old-long) (sym (append-assoc (samples log n) (samplesIn (block log n)) (x ∷ [])))
+
+  last-last : lastNumber (put log n more) (suc n) ≡ lastNumber log (suc n)
+  last-last = let h = was .fits in rw (put-here log n more more-long (omega arith)) more-number
+
+-- what holds of both holds of an add that is not refused 14
+pub add-elim : (log : List ℕ) (used : ℕ) (x : List ℕ) (P : List ℕ → ℕ → Type 0) → (needsNew log used && noneLeft log used) ≡ false
+    → (needsNew log used ≡ true → noneLeft log used ≡ false → P (put log used (grown (newBlock log used) x)) (suc used))
+    → ((n : ℕ) → used ≡ suc n → needsNew log used ≡ false → count (block log n) < mostSamples → P (put log n (grown (block log n) x)) (suc n))
+    → P (afterAdd log used x) (usedAfter log used)
+add-elim log zero x P e new last = new refl e
+add-elim log (suc n) x P e new last = case (needsNew log (suc n))
+    (λ t. rw t (new t (rw t at e)))
+    (λ t. let z : suc n - 1 ≡ n = omega arith in rw (t, z) (last n refl t (leb-false mostSamples (count (block log n)) t)))
+
+module _ (log : List ℕ) (used : ℕ) (x : List ℕ) (taken : addRefusal log used x ≡ 0) where
+  -- an accepted add is refused none of 8, 15 and 14
+  pub add-taken : (length x ≡ sampleSize) × Fit log used × ((needsNew log used && noneLeft log used) ≡ false)
+  add-taken =
+      let w = wrongSample x in
+      let u = unsound log used in
+      let f = needsNew log used && noneLeft log used in
+      let all = first-none (addRows log used x) refl .0 taken in
+      let rest = and-right (not w) (not u && (not f && true)) all in (
+        eqb-true (length x) sampleSize (not-false (eqb (length x) sampleSize) (not-true w (and-left (not w) (not u && (not f && true)) all))),
+        fit log used (not-true u (and-left (not u) (not f && true) rest)),
+        not-true f (and-left (not f) true (and-right (not u) (not f && true) rest)),
+      )
+
+  long : length x ≡ sampleSize
+  long = add-taken .0
+
+  was : Fit log used
+  was = add-taken .1
+
+  free : (needsNew log used && noneLeft log used) ≡ false
+  free = add-taken .2
+
+  -- the last block, by whichever number it has
+  at-last : (n : ℕ) → used ≡ suc n → Fit log (suc n)
+  at-last n e = rw e at was
+
+  -- the log that is left is sound; its samples are the old ones and then this one; numbers rise by one
+  pub add-sound : Bytes log → Fit (afterAdd log used x) (usedAfter log used)
+  unfolding first more
+  add-sound bytes = add-elim log used x Fit free (λ t l. new-fit log used x bytes was long l) (λ n e t r. last-fit log n x (at-last n e) long r)
+
+  pub add-samples : Bytes log → samples (afterAdd log used x) (usedAfter log used) ≡ samples log used ++ (x ∷ [])
+  unfolding first more
+  add-samples bytes =
+      add-elim log used x (λ t n. samples t n ≡ samples log used ++ (x ∷ [])) free
+      (λ t l. new-samples log used x bytes was long l) (λ n e t r. rw e (last-samples log n x (at-last n e) long r))
+
+  pub add-number : Bytes log → lastNumber (afterAdd log used x) (usedAfter log used) ≡ (if needsNew log used then suc (lastNumber log used) else lastNumber log used)
+  unfolding first more
+  add-number bytes =
+      add-elim log used x (λ t n. lastNumber t n ≡ (if needsNew log used then suc (lastNumber log used) else lastNumber log used)) free
+      (λ t l. rw t (new-last log used x bytes was long l))
+      (λ n e t r. rw t (last-last log n x (at-last n e) long r ∙ ap (lastNumber log) (sym e)))
+
+  -- no byte is changed but those of block `usedAfter - 1`, which is the last used block or the new one
+  pub add-elsewhere : (i : ℕ) → i < length log
+      → (blockSize * usedAfter log used ≤ i + blockSize → i < blockSize * usedAfter log used → ⊥) → at (afterAdd log used x) i ≡ at log i
+  add-elsewhere i h =
+      add-elim log used x (λ t n. (blockSize * n ≤ i + blockSize → i < blockSize * n → ⊥) → at t i ≡ at log i) free
+      (λ t l no. put-else log used (grown (newBlock log used) x) i h (λ u v. no (omega arith) (omega arith)))
+      (λ n e t r no. put-else log n (grown (block log n) x) i h (λ u v. no (omega arith) (omega arith)))
+
+  pub add-length : length (afterAdd log used x) ≡ length log
+  add-length = add-elim log used x (λ t n. length t ≡ length log) free (λ t l. put-length log used (grown (newBlock log used) x)) (λ n e t r. put-length log n (grown (block log n) x))
+
+  -- there is room for the new block
+  pub add-room : needsNew log used ≡ true → blockSize * used + blockSize ≤ length log
+  add-room n = let h = left-over log used (rw n at free) .0 in omega arith
+
+  -- or in the last one
+  pub add-last-room : needsNew log used ≡ false → (1 ≤ used) × (blockSize * (used - 1) + blockSize ≤ length log) × (count (block log (used - 1)) < mostSamples)
+  add-last-room n = by used (was .fits) n
+    where
+      by : (u : ℕ) → u ≤ blocks log → needsNew log u ≡ false → (1 ≤ u) × (blockSize * (u - 1) + blockSize ≤ length log) × (count (block log (u - 1)) < mostSamples)
+      by zero h e = absurd (true≢false e)
+      by (suc m) h e =
+          let z : suc m - 1 ≡ m = omega arith in
+          (omega arith, omega arith, rw z (leb-false mostSamples (count (block log m)) e))
+
+-- ---- a power-up that is accepted
+
+module _ (log : List ℕ) (used : ℕ) (taken : powerUpRefusal log used ≡ 0) where
+  pub power-up-taken : Fit log used × (noneLeft log used ≡ false)
+  power-up-taken =
+      let u = unsound log used in
+      let f = noneLeft log used in
+      let all = first-none (powerUpRows log used) refl .0 taken in
+      (fit log used (not-true u (and-left (not u) (not f && true) all)), not-true f (and-left (not f) true (and-right (not u) (not f && true) all)))
+
+  pub power-up-room : blockSize * used + blockSize ≤ length log
+  power-up-room = let h = left-over log used (power-up-taken .1) .0 in omega arith
+
+  -- no byte is changed but those of the new block, and no length
+  pub power-up-elsewhere : (i : ℕ) → i < length log → (blockSize * used ≤ i → i < blockSize * used + blockSize → ⊥) → at (afterPowerUp log used) i ≡ at log i
+  power-up-elsewhere i h = put-else log used (newBlock log used) i h
+
+  pub power-up-length : length (afterPowerUp log used) ≡ length log
+  power-up-length = put-length log used (newBlock log used)
+
+  -- the sample that comes next goes into the new block
+  pub power-up-takes : needsNew (afterPowerUp log used) (suc used) ≡ false
+  power-up-takes = rw (put-here log used (newBlock log used) (fresh-length (suc (lastNumber log used))) power-up-room, fresh-count (suc (lastNumber log used)))

@@ -1,0 +1,96 @@
+-- Damage: a sound log of which any one byte of a used block is changed is unsound.
+-- Assumes nothing.
+use mathlib.Core.Path.{_≡_, sym, ap, _∙_}
+use mathlib.Core.Logic.{_≢_}
+use mathlib.Core.Bool.{true, false}
+use mathlib.Core.List.{List}
+use Prim.Native.Nat.{ℕ, zero, suc, _+_, _-_, _*_, _/_, _%_, _≤_, _<_}
+use native.Mathlib.Omega.{arith}
+use lib.Dec.{ltb, eqb}
+use lib.ListN.{length, set}
+use lib.Seq.{getD-set-same, getD-set-other}
+use borrow.Author.Tests.{lt-ltb, ltb-true, ltb-false, eqb-true, eqb-false}
+use Rattle.laws.specs.Lists.{at, table, sum}
+use Rattle.laws.proofs.Tests.{case, not-both}
+use Rattle.laws.proofs.Lists.{part-length, part-at}
+use Rattle.laws.proofs.Parts.{table-same, part-set}
+use Rattle.laws.proofs.Zeros.{sum-table}
+use Rattle.log.specs.Block.{blockSize, roomEnd, first510, checkOf, sealed, soundBlock}
+use Rattle.log.specs.Log.{block, unsound}
+use Rattle.log.specs.Contracts.{Bytes}
+use Rattle.log.proofs.Blocks.{holds-at, sealed-same, sound-ended}
+use Rattle.log.proofs.Logs.{sound-block}
+use Rattle.log.proofs.Fits.{Fit, fit}
+use Rattle.log.proofs.Bytes.{bytes-block}
+
+-- two tables that differ at one place alone
+sum-change : (n : ℕ) (f g : ℕ → ℕ) (j : ℕ) → j < n → ((i : ℕ) → i < n → i ≢ j → g i ≡ f i) → sum (table n g) + f j ≡ sum (table n f) + g j
+sum-change zero f g j h same = absurd (omega arith)
+sum-change (suc n) f g j h same =
+    let a = sum-table n f in
+    let b = sum-table n g in
+    case (eqb j n)
+    (λ t. let z = eqb-true j n t in
+    let e : sum (table n g) ≡ sum (table n f) = ap sum (table-same n g f (λ i k. same i (omega arith) (λ y. omega arith))) in
+    let x : f j ≡ f n = ap f z in let y : g j ≡ g n = ap g z in omega arith)
+    (λ t. let d = eqb-false j n t in
+    let e = sum-change n f g j (omega arith) (λ i k. same i (omega arith)) in
+    let x : g n ≡ f n = same n (omega arith) (λ y. d (sym y)) in omega arith)
+
+-- a block
+module _ (b : List ℕ) (long : length b ≡ blockSize) (bytes : Bytes b) (fine : soundBlock b ≡ true) (j v : ℕ) (here : j < blockSize) (byte : v < 256) (new : v ≢ at b j) where
+  changed : List ℕ
+  changed = set b j v
+
+  at-new : at changed j ≡ v
+  unfolding changed
+  at-new = getD-set-same b j v 0 (omega arith)
+
+  at-old : (i : ℕ) → i ≢ j → at changed i ≡ at b i
+  unfolding changed
+  at-old i d = getD-set-other b j i v 0 d
+
+  end-of : (c : List ℕ) → soundBlock c ≡ true → (i : ℕ) → roomEnd ≤ i → i < blockSize → at c i ≡ sealed (at c) i
+  end-of c e i h l =
+      let z : roomEnd + (i - roomEnd) ≡ i = omega arith in
+      ap (at c) (sym z) ∙ holds-at roomEnd (blockSize - roomEnd) (λ k. sealed (at c) (roomEnd + k)) c (sound-ended c e) (i - roomEnd) (omega arith) ∙ ap (sealed (at c)) z
+
+  -- before byte 501 the sum tells it
+  told-by-sum : j < roomEnd → soundBlock changed ≡ true → ⊥
+  unfolding sealed checkOf
+  told-by-sum h e =
+      let high : checkOf (at changed) / 256 ≡ checkOf (at b) / 256 = sym (end-of changed e 510 (omega arith) (omega arith)) ∙ at-old 510 (λ z. omega arith) ∙ end-of b fine 510 (omega arith) (omega arith) in
+      let low : checkOf (at changed) % 256 ≡ checkOf (at b) % 256 = sym (end-of changed e 511 (omega arith) (omega arith)) ∙ at-old 511 (λ z. omega arith) ∙ end-of b fine 511 (omega arith) (omega arith) in
+      let sums = sum-change 510 (first510 (at b)) (first510 (at changed)) j (omega arith)
+      (λ i k d. case (ltb i roomEnd) (λ t. rw t (at-old i d)) (λ t. rw t)) in
+      let was : first510 (at b) j ≡ at b j = rw (lt-ltb j roomEnd h) in
+      let now : first510 (at changed) j ≡ v = rw (lt-ltb j roomEnd h) at-new in
+      let small = bytes j in
+      omega (arith, new)
+
+  -- from there on it is not what it must be
+  told-by-end : roomEnd ≤ j → soundBlock changed ≡ true → ⊥
+  told-by-end h e =
+      new (sym at-new ∙ end-of changed e j h here ∙ sealed-same (at changed) (at b) (λ i k. at-old i (λ z. omega arith)) j ∙ sym (end-of b fine j h here))
+
+  pub block-damaged : soundBlock (set b j v) ≡ false
+  unfolding changed
+  block-damaged = case (soundBlock (set b j v))
+      (λ t. absurd (case (ltb j roomEnd) (λ q. told-by-sum (ltb-true j roomEnd q) t) (λ q. told-by-end (ltb-false j roomEnd q) t)))
+      (λ t. t)
+
+-- a log
+pub damage-seen : (log : List ℕ) (used : ℕ) → Fit log used → Bytes log → (i v : ℕ) → i < blockSize * used → v < 256 → v ≢ at log i → unsound (set log i v) used ≡ true
+damage-seen log used was bytes i v h byte new = case (unsound (set log i v) used)
+    (λ t. t)
+    (λ t. let n : ℕ = i / blockSize in
+    let j : ℕ = i % blockSize in
+    let z : blockSize * n + j ≡ i = omega arith in
+    let few = was .fits in
+    let room : blockSize * n + blockSize ≤ length log = omega arith in
+    let old : at (block log n) j ≡ at log i = part-at (blockSize * n) blockSize log room j (omega arith) ∙ ap (at log) z in
+    let cut : block (set log i v) n ≡ set (block log n) j v = ap (λ k. block (set log k v) n) (sym z) ∙ part-set (blockSize * n) blockSize j v log room (omega arith) in
+    not-both (soundBlock (block (set log i v) n))
+    (sound-block (set log i v) used n (omega arith) (fit (set log i v) used t .good))
+    (ap soundBlock cut ∙ block-damaged (block log n) (part-length (blockSize * n) blockSize log room) (bytes-block log n bytes room)
+    (sound-block log used n (omega arith) (was .good)) j v (omega arith) byte (λ y. new (y ∙ old))))

@@ -1,0 +1,11 @@
+pub mod Blocks
+pub mod Logs
+pub mod Fits
+pub mod Calls
+pub mod Positions
+pub mod Contracts
+pub mod Stretches
+pub mod Bytes
+pub mod Damage
+pub mod Kept
+pub mod Refusals

@@ -1,0 +1,3 @@
+pub mod Block
+pub mod Log
+pub mod Contracts

@@ -1,0 +1,58 @@
+// The walk over the used blocks of a log: whether each is sound, and their numbers rise by one.
+// Proved: refusal 15 is given exactly when document 02's Ask 1 says so (log/specs). Of a sound log every byte of every used block is
+// looked at.
+ghost use mathlib.Core.Path.{_≡_};
+ghost use mathlib.Core.Bool.{true, false};
+ghost use Prim.Native.Nat.{_+_, _*_, _≤_};
+ghost use lib.ListN.{length};
+ghost use Rattle.log.specs.Block.{blockSize};
+ghost use Rattle.log.specs.Log.{block, sound, unsound};
+use blocks::BLOCK_LEN;
+
+// Block `i`.
+pub fn block_of(log: &[u8], i: usize) -> &[u8]
+    requires { ⌜ blockSize * i + blockSize ≤ length (now log) ⌝ }
+    ensures { λ r. ⌜ (now r ≡ block (now (log .entry)) i) × (length (now r) ≡ blockSize) ⌝ }
+{
+    let start = BLOCK_LEN * i;
+    let end = start + BLOCK_LEN;
+    &log[start..end]
+}
+
+// Whether each of the first `used` blocks is sound, and their numbers rise by one.
+fn is_rising(log: &[u8], used: usize) -> bool
+    requires { ⌜ blockSize * used ≤ length (now log) ⌝ }
+    ensures { λ r. ⌜ (r ≡ sound (now (log .entry)) used) × (r ≡ true → used ≤ 4294967296) ⌝ }
+{
+    let mut last: u64 = 0;
+    let mut i: usize = 0;
+    while i < used {
+        let number = blocks::number_of(block_of(log, i));
+        if (i != 0) & (number != last + 1) {
+            return false;
+        }
+        if blocks::is_sound(block_of(log, i)) {
+            last = number;
+            i += 1;
+        } else {
+            return false;
+        }
+    }
+    true
+}
+
+// Whether the log is refused 15.
+pub fn is_unsound(log: &[u8], used: u64) -> bool
+    ensures { λ r. ⌜ (r ≡ unsound (now (log .entry)) used) × (r ≡ false → used ≤ 4294967296) ⌝ }
+{
+    if log.len() % BLOCK_LEN != 0 {
+        return true;
+    }
+    if ((log.len() / BLOCK_LEN) as u64) < used {
+        return true;
+    }
+    if is_rising(log, used as usize) {
+        return false;
+    }
+    true
+}

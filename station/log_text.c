@@ -1,0 +1,68 @@
+/* log_text.c: the form of a log for people: a line that sums it up, and a table. */
+#include "log_show.h"
+#include "say.h"
+
+#include <inttypes.h>
+#include <stdio.h>
+
+/* Of more than MANY samples, the LAST ones are shown. */
+enum { MANY = 40, LAST = 20 };
+
+/* The columns, each as wide as the greatest number needs. */
+static const char HEADING[] =
+    "                                       Rx power mW                 Tx bias mA                      Tx power mW\n"
+    "position      block      temp C      V      1      2      3      4"
+    "       1       2       3       4      1      2      3      4  status";
+static const int WIDTHS[QUANTITIES] = {12, 7, 7, 8, 7};
+
+static void begin(struct log_view *view)
+{
+    const struct logfile *log = &view->log;
+
+    printf("%s%s%s: %" PRIu64 " sample%s in %" PRIu64 " of %" PRIu64 " block%s\n", paint(STRONG), log->name, paint(PLAIN),
+           view->samples, plural(view->samples), log->used, log->held.blocks, plural(log->held.blocks));
+    if (view->all && view->samples > MANY) {
+        view->from = view->samples - LAST;
+        printf("the last %d of them; --from 0 shows all, --from N --count N some\n", LAST);
+    }
+    if (view->from < view->until)
+        printf("\n%s%s%s\n", paint(STRONG), HEADING, paint(PLAIN));
+}
+
+/* The status flags that are 1; four of a kind as one, "Rx1-4 loss of signal". */
+static void print_status(const uint8_t *sample)
+{
+    const char *between = "  ";
+    char name[NAME_ROOM];
+
+    for (unsigned flag = 0; flag < STATUS_FLAGS; flag++) {
+        bool first = flag % 4 == 0, all = first;
+        for (unsigned i = 0; i < 4; i++)
+            all = all && status_of(sample, flag + i);
+        if (all)
+            printf("%s%.2s1-4%s", between, status_name(flag, name), status_name(flag, name) + 3);
+        else if (status_of(sample, flag))
+            printf("%s%s", between, status_name(flag, name));
+        else
+            continue;
+        between = ", ";
+        flag += all ? 3 : 0;
+    }
+}
+
+static void row_line(const struct log_row *row)
+{
+    printf("%8" PRIu64 "%11" PRIu64, row->position, row->number);
+    for (unsigned m = 0; m < MONITORS; m++) {
+        enum zikhrodan_kind kind = row->kinds[m];
+        if (kind == ZIKHRODAN_NOTHING)
+            printf("%*s", WIDTHS[quantity_of(m)], "-");
+        else
+            printf("%*.*f", WIDTHS[quantity_of(m)], UNIT_DECIMALS[kind], row->values[m]);
+    }
+    fputs(paint(BAD), stdout);
+    print_status(row->sample);
+    printf("%s\n", paint(PLAIN));
+}
+
+const struct log_form LOG_TEXT = {.begin = begin, .row = row_line};

@@ -1,0 +1,84 @@
+/* logcalls.c: see logcalls.h. */
+#include "logcalls.h"
+#include "say.h"
+
+#include <inttypes.h>
+#include <stdio.h>
+
+enum { BLOCK = ZIKHRODAN_BLOCK_LEN };
+
+/* The log from the last used block on; the whole where none is used. */
+struct end {
+    uint64_t first; /* the place at which it begins */
+    uint8_t *bytes;
+    size_t len;
+    uint64_t used;
+};
+
+static struct end end_of(struct logfile *log)
+{
+    uint64_t first = log->used > 0 ? log->used - 1 : 0;
+
+    return (struct end){first, log->bytes + first * BLOCK, (log->held.blocks - first) * BLOCK, log->used - first};
+}
+
+/* Takes the answer of a change of that end. */
+static uint32_t taken(struct logfile *log, const struct end *end, uint64_t answer)
+{
+    if (zikhrodan_log_refusal(answer) == ZIKHRODAN_ACCEPTED)
+        log->used = end->first + zikhrodan_log_value(answer);
+    return zikhrodan_log_refusal(answer);
+}
+
+uint32_t log_add(struct logfile *log, const uint8_t *sample, size_t len)
+{
+    struct end end = end_of(log);
+
+    return taken(log, &end, zikhrodan_log_add(end.bytes, end.len, end.used, sample, len));
+}
+
+uint32_t log_power_up(struct logfile *log)
+{
+    struct end end = end_of(log);
+
+    return taken(log, &end, zikhrodan_log_power_up(end.bytes, end.len, end.used));
+}
+
+uint64_t log_number(const struct logfile *log, uint64_t place)
+{
+    const uint8_t *at = log->bytes + place * BLOCK;
+
+    return (uint64_t)at[0] << 24 | (uint64_t)at[1] << 16 | (uint64_t)at[2] << 8 | at[3];
+}
+
+static uint64_t asked(const struct logfile *log, uint64_t place, unsigned position)
+{
+    return zikhrodan_log_sample(log->bytes + place * BLOCK, BLOCK, 1, position);
+}
+
+/* Positions below the count are accepted, the others refused. Most blocks are full, and then the first question is the last. */
+unsigned log_count(const struct logfile *log, uint64_t place)
+{
+    unsigned least = 0, most = ZIKHRODAN_BLOCK_SAMPLES, position = most - 1;
+
+    while (least < most) {
+        if (zikhrodan_log_refusal(asked(log, place, position)) == ZIKHRODAN_ACCEPTED)
+            least = position + 1;
+        else
+            most = position;
+        position = (least + most) / 2;
+    }
+    return least;
+}
+
+const uint8_t *log_sample(const struct logfile *log, uint64_t place, unsigned position)
+{
+    return log->bytes + place * BLOCK + zikhrodan_log_value(asked(log, place, position));
+}
+
+void say_used(const struct logfile *log)
+{
+    const struct slot *held = &log->held;
+
+    printf("%s: %" PRIu64 " of %" PRIu64 " block%s used\n", log->name, held->used, held->blocks, plural(held->blocks));
+}

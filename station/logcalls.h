@@ -1,0 +1,25 @@
+/* logcalls.h: the library's calls on a log that it has found sound.
+ *
+ * Each call looks at every used block of what it is lent. So a change is asked of the log that begins with the last used block,
+ * and a sample of its one block: of a sound log this is proved to be the same as asking of the whole. The library alone decides:
+ * how many samples a block has is asked by the position at which it refuses. */
+#ifndef LOGCALLS_H
+#define LOGCALLS_H
+
+#include "logfile.h"
+
+#include <stddef.h>
+
+/* Changes the log in memory; gives the refusal. */
+uint32_t log_add(struct logfile *log, const uint8_t *sample, size_t len);
+uint32_t log_power_up(struct logfile *log);
+
+/* Of the used block at a place, counted from 0: the number that it carries, how many samples it has, and one of these. */
+uint64_t log_number(const struct logfile *log, uint64_t place);
+unsigned log_count(const struct logfile *log, uint64_t place);
+const uint8_t *log_sample(const struct logfile *log, uint64_t place, unsigned position);
+
+/* "day.log: 90 of 100 blocks used", of what the file has. */
+void say_used(const struct logfile *log);
+
+#endif

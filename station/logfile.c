@@ -1,0 +1,139 @@
+/* logfile.c: see logfile.h. */
+#include "logfile.h"
+#include "files.h"
+#include "lock.h"
+#include "logread.h"
+#include "say.h"
+#include "signals.h"
+
+#include <errno.h>
+#include <fcntl.h>
+#include <stdlib.h>
+#include <string.h>
+#include <sys/file.h>
+#include <unistd.h>
+
+enum { BLOCK = ZIKHRODAN_BLOCK_LEN };
+
+int log_look(struct logfile *log, const char *name)
+{
+    *log = (struct logfile){.name = name, .fd = -1};
+    int status = open_log(log, O_RDONLY);
+    if (status == 0 && lock(log->fd, LOCK_SH, name, "") != 0)
+        status = fail_errno(name);
+    if (status == 0 && (status = read_head(log)) == 0)
+        status = read_blocks(log);
+    if (log->fd >= 0)
+        close(log->fd);
+    log->fd = -1;
+    if (status == 0)
+        lay_copy(log);
+    status = status ? status : judge(log);
+    if (status == 0)
+        say_damage(log);
+    return status;
+}
+
+/* Opens and locks the file that the name leads to, also where it led to another one before. */
+static int lock_log(struct logfile *log)
+{
+    for (;;) {
+        int status = log->fd < 0 ? open_log(log, O_RDWR) : 0;
+        if (status != 0)
+            return status;
+        if (lock(log->fd, LOCK_EX, log->name, "") != 0)
+            return fail_errno(log->name);
+        int leads = leads_to(log->name, log->fd);
+        if (leads != 0)
+            return leads < 0 ? fail_errno(log->name) : 0;
+        log_close(log);
+    }
+}
+
+/* Wipes the slot that does not hold; -1 with errno set. */
+static int wipe_slot(const struct logfile *log)
+{
+    return write_at(log->fd, WIPED_FRONT, sizeof WIPED_FRONT, !log->turn * SLOT_LEN);
+}
+
+/* What a write that was cut off has left is put right, which step 1 of the next commit makes last: the copy goes in its place,
+ * if it is not there, and a slot that is damaged is wiped. Else another write that is cut off could make it whole. */
+static int mend(struct logfile *log, bool not_there)
+{
+    say_damage(log);
+    if ((not_there && write_at(log->fd, log->held.copy, BLOCK, log_length(log->held.place)) != 0) ||
+        (log->damaged && wipe_slot(log) != 0))
+        return fail_errno(log->name);
+    return 0;
+}
+
+int log_begin(struct logfile *log)
+{
+    struct slot had = log->held;
+    int status = lock_log(log);
+
+    if (status == 0)
+        status = read_head(log);
+    if (status != 0 || (log->bytes && !log->stale && !log->damaged && memcmp(&had, &log->held, sizeof had) == 0))
+        return status;
+    status = read_blocks(log);
+    bool laid = status == 0 && lay_copy(log);
+    status = status ? status : judge(log);
+    return status ? status : mend(log, laid);
+}
+
+/* Step 2 has failed: the slot is wiped, and that is synced. */
+static int take_back(const struct logfile *log)
+{
+    int why = errno;
+
+    if (wipe_slot(log) != 0 || fdatasync(log->fd) != 0)
+        return fail("%s: %s; what was to be added may be in the log all the same", log->name, strerror(why));
+    errno = why;
+    return fail_errno(log->name);
+}
+
+static int commit(struct logfile *log)
+{
+    struct slot next = {.serial = log->held.serial + 1, .blocks = log->held.blocks, .used = log->used};
+    uint64_t had = log->held.used;
+    uint8_t bytes[SLOT_LEN];
+
+    next.place = had > 0 ? had - 1 : 0;
+    memcpy(next.copy, block_at(log, next.place), BLOCK);
+    slot_write(&next, bytes);
+    log->stale = true;
+    if (write_at(log->fd, block_at(log, had), (next.used - had) * BLOCK, log_length(had)) != 0 || fdatasync(log->fd) != 0)
+        return fail_errno(log->name);
+    if (write_at(log->fd, bytes, SLOT_LEN, !log->turn * SLOT_LEN) != 0 || fdatasync(log->fd) != 0)
+        return take_back(log);
+    log->held = next;
+    log->turn = !log->turn;
+    /* It is committed, whatever comes of this: where the block cannot be written, the next log_begin tries again. */
+    log->stale = write_at(log->fd, next.copy, BLOCK, log_length(next.place)) != 0;
+    return 0;
+}
+
+int log_commit(struct logfile *log)
+{
+    sigset_t before;
+
+    hold_signals(&before);
+    int status = commit(log);
+    let_signals(&before);
+    return status;
+}
+
+void log_end(struct logfile *log)
+{
+    flock(log->fd, LOCK_UN);
+}
+
+void log_close(struct logfile *log)
+{
+    if (log->fd >= 0)
+        close(log->fd);
+    free(log->bytes);
+    log->fd = -1;
+    log->bytes = NULL;
+}

@@ -1,0 +1,50 @@
+/* logfile.h: a log of samples in a file, which a write that is cut off, by a kill or by a loss of power, does not harm.
+ *
+ * The file has a head (loghead.h), then the blocks. A commit, after the library has changed the blocks in memory:
+ *   1. the blocks that were unused before and are used now are written, and the file is synced;
+ *   2. the slot that does not hold is written, with the next serial number, the new used number, and a copy of the block that was
+ *      the last one before, as it now stands; the file is synced. From now on that slot holds: only now is anything acknowledged;
+ *   3. that block is written in its own place. This needs no sync of its own: until step 2 of the next commit the copy stands in
+ *      for the block, and step 1's sync comes before that.
+ * Where step 2 fails, its slot may be on the disk all the same, and is wiped, so that the other one holds again.
+ * Of the blocks that are acknowledged only the last one ever changes. Whoever opens the file lays the copy over its block; who
+ * opens it to write first puts it in its place, since step 3 may have been cut off, and wipes a damaged slot. That a slot is
+ * damaged is said: it may be the last that was written, and then what was acknowledged with it is missing.
+ * This holds on disks that write a sector of 512 bytes whole or not at all, and that have written what they say is synced.
+ *
+ * Who changes a log has the file locked (LOCK_EX) from log_begin to log_end, who looks (LOCK_SH) while it is read. */
+#ifndef LOGFILE_H
+#define LOGFILE_H
+
+#include "loghead.h"
+
+#include <stdbool.h>
+
+struct logfile {
+    const char *name; /* as it was given */
+    int fd;           /* -1 where it is not open */
+    uint8_t *bytes;   /* all blocks, as the library has them; null where they are not loaded */
+    uint64_t used;    /* of these */
+    struct slot held; /* what the file has */
+    unsigned turn;    /* which slot that is, 0 or 1 */
+    bool damaged;     /* the other one is, and nobody has wiped it */
+    bool stale;       /* what is in memory may differ from what the file has */
+};
+
+/* Begins a change: locks, and loads what is not loaded or what another command has changed. A log that the library finds unsound
+ * is refused. Before the first time: {.name = .., .fd = -1}. Gives 0, or an exit status with the error said, as the others do. */
+int log_begin(struct logfile *log);
+
+/* Makes what the library has changed in memory last, while signals wait. Where it cannot, the log is as it was, or the error's
+ * line says that it may not be. */
+int log_commit(struct logfile *log);
+
+/* Others can have it. */
+void log_end(struct logfile *log);
+
+/* A look: loads, and leaves nothing locked. */
+int log_look(struct logfile *log, const char *name);
+
+void log_close(struct logfile *log);
+
+#endif

@@ -1,0 +1,142 @@
+/* log_histories.c: random histories of a log: samples, power-ups, readings, and bytes that change and are as they were again. The
+ * group also fails if its calls leave out an outcome. */
+#include "both.h"
+#include "check.h"
+#include "groups.h"
+#include "log_cases.h"
+#include "random.h"
+#include "text.h"
+
+#include <inttypes.h>
+#include <string.h>
+#include <time.h>
+
+enum { PART = 6, FEWER = 10 };  /* the seconds, or the calls, are that part of those of the module's histories */
+
+static uint64_t made, accepted[KINDS], refused[KINDS], refusals[256];
+
+/* The log as it stands: its length and used number. Where a byte of it was changed, and what it was. */
+static size_t len;
+static uint64_t used;
+static bool damaged;
+static size_t place;
+static uint8_t byte;
+
+/* Makes a call. If the log goes on from there, it has the used number that an accepted add or power-up hands back. */
+static void make(struct call call, bool goes_on)
+{
+    uint64_t answer = try(call);
+    made++;
+    refusals[answer & 0xff]++;
+    if (answer & 0xff)
+        refused[call.kind]++;
+    else
+        accepted[call.kind]++;
+    if (goes_on && !(answer & 0xff) && call.kind != LOG_SAMPLE)
+        used = answer >> 8;
+}
+
+/* Mostly with no block used; else with used blocks whose numbers are at an end, or pass it, which is unsound. */
+static void beginning(void)
+{
+    uint8_t *log = log_memory();
+    unsigned blocks = random_below(MOST_BLOCKS + 1);
+    used = chance(60) ? 0 : random_below(blocks + 1);
+    uint32_t number = end_numbers[random_below(END_NUMBERS)], first = chance(50) ? number : number + 1 - (uint32_t)used;
+    make_log(log, (unsigned)used, first, random_below(BLOCK_SAMPLES + 1));
+    len = blocks * BLOCK_LEN + (chance(97) ? 0 : random_below(BLOCK_LEN));
+    damaged = false;
+    place_at(chance(60) ? AT_END : chance(50) ? AT_START : AT_ODD);
+    begin_log(log, len);
+}
+
+/* A used number, mostly not the log's own. With a lower one the call may be accepted, and then the log goes on from there. */
+static uint64_t other_used(void)
+{
+    return chance(40) ? used + 1 : chance(50) ? random_below(MOST_BLOCKS + 2) : random_number() >> random_below(64);
+}
+
+static void damage_or_heal(void)
+{
+    if (!len)
+        return;
+    if (!damaged) {
+        place = random_below((unsigned)len);
+        byte = both_state()[place];
+    }
+    try(a_put(place, damaged ? byte : (uint8_t)(byte ^ 1 << random_below(8))));
+    damaged = !damaged;
+}
+
+static void read_all(void)
+{
+    for (uint64_t position = 0; position <= BLOCK_SAMPLES * used && position < 140; position++)
+        make(a_log_sample(used, position), true);
+}
+
+static void step(void)
+{
+    unsigned roll = damaged && chance(40) ? 99 : random_below(100);
+    struct bytes sample = log_sample();
+    if (roll < 70) {
+        if (chance(4))
+            sample.len = random_below(2 * SAMPLE_LEN + 1);
+        make(a_log_add(used, sample), true);
+    } else if (roll < 74) {
+        make(a_log_power_up(used), true);
+    } else if (roll < 90) {
+        make(a_log_sample(used, random_below(BLOCK_SAMPLES * (unsigned)used + 2)), true);
+    } else if (roll < 92) {
+        read_all();
+    } else if (roll < 96) {
+        uint64_t wrong = other_used();
+        make(chance(50) ? a_log_add(wrong, sample) : chance(50) ? a_log_power_up(wrong) : a_log_sample(wrong, 0), wrong < used);
+    } else {
+        damage_or_heal();
+    }
+}
+
+static double seconds_now(void)
+{
+    struct timespec now;
+    clock_gettime(CLOCK_MONOTONIC, &now);
+    return (double)now.tv_sec + (double)now.tv_nsec / 1e9;
+}
+
+static void report(uint64_t histories)
+{
+    static const uint8_t numbers[] = { 8, 14, 15, 17 };
+    char line[400];
+    int end = snprintf(line, sizeof line, " in %" PRIu64 " histories; accepted and refused:", histories);
+    for (int kind = LOG_ADD; kind <= LOG_SAMPLE; kind++) {
+        if (!accepted[kind] || !refused[kind])
+            fail("%s was never %s", text_word((enum kind)kind), accepted[kind] ? "refused" : "accepted");
+        end += snprintf(line + end, sizeof line - (size_t)end, " %s %" PRIu64 " %" PRIu64 ",", text_word((enum kind)kind),
+                        accepted[kind], refused[kind]);
+    }
+    end += snprintf(line + end, sizeof line - (size_t)end, " refusals 8, 14, 15 and 17:");
+    for (size_t i = 0; i < COUNT(numbers); i++) {
+        if (!refusals[numbers[i]])
+            fail("refusal %d never came", numbers[i]);
+        end += snprintf(line + end, sizeof line - (size_t)end, " %" PRIu64, refusals[numbers[i]]);
+    }
+    say("%s", line);
+}
+
+void group_log_histories(void)
+{
+    uint64_t histories = 0;
+    double end = seconds_now() + (double)options.seconds / PART;
+    random_seed(options.seed);
+    made = 0;
+    memset(accepted, 0, sizeof accepted);
+    memset(refused, 0, sizeof refused);
+    memset(refusals, 0, sizeof refusals);
+    for (; options.seconds ? seconds_now() < end : made < options.calls / FEWER; histories++) {
+        beginning();
+        for (size_t steps = 1 + random_below(12 + 16 * (unsigned)len / BLOCK_LEN); steps; steps--)
+            step();
+    }
+    place_at(AT_END);
+    report(histories);
+}

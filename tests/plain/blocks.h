@@ -1,0 +1,28 @@
+/* blocks.h: what document 02's Ask 1 says of the bytes of one block of a log. The rules stand in blocks.c; for LINKAGE and BROKEN
+ * see rules.h. */
+#ifndef BLOCKS_H
+#define BLOCKS_H
+
+#include "rules.h"
+
+enum { BLOCK_LEN = 512, BLOCK_SAMPLES = 16 };
+
+/* The highest number that a block can have. */
+#define LAST_NUMBER 4294967295u
+
+/* What a block says of itself. */
+LINKAGE uint32_t block_number(const uint8_t *block);
+LINKAGE unsigned block_count(const uint8_t *block);
+
+/* Where in a block a sample starts, from 0 on. */
+LINKAGE unsigned sample_start(unsigned sample);
+
+LINKAGE bool sound_block(const uint8_t *block);
+
+/* Bytes 501 to 511, made to suit those before them. */
+LINKAGE void write_ending(uint8_t *block);
+
+/* All 512 bytes of a block with this number and these samples, one right after the other. */
+LINKAGE void write_block(uint8_t *block, uint32_t number, unsigned count, const uint8_t *samples);
+
+#endif
