@@ -7,11 +7,11 @@ use mathlib.Core.Bool.{true, false}
 use mathlib.Core.List.{List}
 use Prim.Native.Nat.{ℕ, suc, _+_, _-_, _*_, _≤_}
 use native.Mathlib.Omega.{arith}
+use native.Mathlib.Numerals.{add-one}
 use lib.Dec.{eqb}
 use lib.ListN.{length}
-use native.Mathlib.Numerals.{add-one}
-use borrow.Author.Tests.{ne-eqb, eq-eqb, eqb-true}
 use denote.Ref.{RefT, ptr, now}
+use borrow.Author.Tests.{ne-eqb, eq-eqb, eqb-true}
 use Rattle.laws.proofs.Tests.{case}
 use Rattle.log.specs.Block.{blockSize, grown}
 use Rattle.log.specs.Log.{block, needsNew, put, newBlock, afterPowerUp, usedAfter}

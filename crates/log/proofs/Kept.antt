@@ -6,8 +6,8 @@ use mathlib.Core.List.{List, [], _∷_, _++_}
 use Prim.Native.Nat.{ℕ, suc, _%_, _<_}
 use lib.Dec.{eqb, leb}
 use lib.ListN.{length, getD}
-use borrow.Author.Tests.{eqb-true, lt-leb}
 use denote.Ref.{RefT, now}
+use borrow.Author.Tests.{eqb-true, lt-leb}
 use Rattle.laws.specs.Tests.{if_then_else_, firstOf}
 use Rattle.laws.specs.Lists.{part}
 use Rattle.laws.proofs.Tests.{case}

@@ -1,7 +1,7 @@
 -- `blocks::begin` meets its contract.
 -- Assumes nothing.
-use borrow.Author.Needs.{needs}
 use mathlib.Core.Path.{_∙_}
+use borrow.Author.Needs.{needs}
 use Rattle.blocks.proofs.Laws.{begin-done}
 use Rattle.blocks.proofs.begin.Statement.{statement}
 use Rattle.blocks.proofs.begin.Tie as tie

@@ -1,9 +1,9 @@
 -- `blocks::grow` meets its contract.
 -- Assumes nothing.
-use borrow.Author.Needs.{needs}
 use mathlib.Core.Path.{_∙_}
 use Prim.Native.Nat.{ℕ, _+_}
 use lib.ListN.{length-set}
+use borrow.Author.Needs.{needs}
 use Rattle.laws.specs.Lists.{at}
 use Rattle.blocks.proofs.Laws.{grow-done}
 use Rattle.blocks.proofs.grow.Statement.{statement}

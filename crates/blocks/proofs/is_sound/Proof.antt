@@ -1,10 +1,10 @@
 -- `blocks::is_sound` meets its contract.
 -- Assumes nothing.
-use borrow.Author.Needs.{needs}
-use Rattle.blocks.proofs.Laws.{sound-many, sound-roomy, sound-end}
 use mathlib.Core.Path.{sym, _∙_}
 use native.Mathlib.Omega.{arith}
+use borrow.Author.Needs.{needs}
 use Rattle.log.proofs.Blocks.{check-used}
+use Rattle.blocks.proofs.Laws.{sound-many, sound-roomy, sound-end}
 use Rattle.blocks.proofs.is_sound.Statement.{statement}
 use Rattle.blocks.proofs.is_sound.Tie as tie
 

@@ -3,12 +3,12 @@ use native.Mathlib.Omega.{arith}
 use lib.ListN.{length-set}
 use borrow.Author.Needs.{needs}
 use Rattle.blocks.proofs.Laws.{seal-done}
-use Rattle.blocks.proofs.seal.Statement.{statement}
-use Rattle.blocks.proofs.seal.Tie as tie
 use Rattle.blocks.proofs.seal.Reads as reads
 use Rattle.blocks.proofs.seal.Lts as lts
 use Rattle.blocks.proofs.sum16.Reads as sum16-reads
 use Rattle.moves.proofs.fill.Reads as fill-reads
+use Rattle.blocks.proofs.seal.Statement.{statement}
+use Rattle.blocks.proofs.seal.Tie as tie
 
 -- src/lib.rt:66:9
 sum16-requires : tie.Need-sum16-requires

@@ -1,15 +1,15 @@
 -- `finding::find` meets its contract.
 -- Assumes nothing.
 use mathlib.Core.Path.{_≡_, refl, ap, _∙_}
-use native.Mathlib.Omega.{arith}
-use borrow.Author.Needs.{needs}
-use Rattle.finding.proofs.Laws.{found-here, passed-on, none-here}
 use Prim.Native.Nat.{_+_, _-_, _*_, _≤_, _<_}
+use native.Mathlib.Omega.{arith}
 use lib.ListN.{length}
+use borrow.Author.Needs.{needs}
 use Rattle.log.specs.Block.{blockSize, count, mostSamples}
 use Rattle.log.specs.Log.{block, samples, total}
 use Rattle.log.proofs.Blocks.{sound-count}
 use Rattle.log.proofs.Logs.{sound-block}
+use Rattle.finding.proofs.Laws.{found-here, passed-on, none-here}
 use Rattle.finding.proofs.find.Statement.{statement}
 use Rattle.finding.proofs.find.Tie as tie
 

@@ -1,10 +1,10 @@
 -- `finding::sample_place` meets its contract.
 -- Assumes nothing.
-use borrow.Author.Needs.{needs}
 use mathlib.Core.Path.{sym, _∙_}
+use native.Mathlib.Omega.{arith}
+use borrow.Author.Needs.{needs}
 use Rattle.walking.proofs.Laws.{fits-in}
 use Rattle.finding.proofs.Laws.{placed-unsound, placed-found, placed-small}
-use native.Mathlib.Omega.{arith}
 use Rattle.finding.proofs.sample_place.Statement.{statement}
 use Rattle.finding.proofs.sample_place.Tie as tie
 

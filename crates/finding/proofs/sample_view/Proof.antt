@@ -1,8 +1,8 @@
 -- `finding::sample_view` meets its contract.
 -- Assumes nothing.
-use borrow.Author.Needs.{needs}
 use mathlib.Core.Path.{refl}
 use native.Mathlib.Omega.{arith}
+use borrow.Author.Needs.{needs}
 use Rattle.finding.proofs.Laws.{view-fits, view-found, view-refused}
 use Rattle.finding.proofs.sample_view.Statement.{statement}
 use Rattle.finding.proofs.sample_view.Tie as tie

@@ -1,13 +1,18 @@
 -- `logging::add` meets its contract.
 -- Assumes nothing.
-use borrow.Author.Needs.{needs}
-use Rattle.log.proofs.Contracts.{add-refused, added-new, added-last}
-use mathlib.Core.Path.{sym, _∙_}
+use mathlib.Core.Path.{_≡_, sym, _∙_}
 use native.Mathlib.Omega.{arith}
+use borrow.Author.Needs.{needs}
+use Rattle.log.specs.Contracts.{addRefusal}
+use Rattle.log.proofs.Contracts.{add-refused, added-new, added-last}
 use Rattle.log.proofs.Calls.{add-taken, add-room, add-last-room}
 use Rattle.logging.proofs.Laws.{opened-room, opened-grown}
 use Rattle.logging.proofs.add.Statement.{statement}
 use Rattle.logging.proofs.add.Tie as tie
+
+-- past its test the refusal is 0
+accepted : (n : tie.After-needs-new) → let x = n .before .before .before .before .before .before .before .args in addRefusal (x .log .now) (x .used) (x .sample .now) ≡ 0
+accepted n = sym (n .before .before .before .add-refusal .ensures) ∙ n .before .before .if1 .left
 
 add-refusal-requires : tie.Need-add-refusal-requires
 add-refusal-requires c κs = search needs
@@ -30,10 +35,8 @@ open-block-requires : tie.Need-open-block-requires
 open-block-requires c κs =
     let t = c .before in
     let n = t .before in
-    let e = n .before .before in
-    let a = e .before in
-    let x = a .before .before .before .before .args in
-    let taken = sym (a .add-refusal .ensures) ∙ e .if1 .left in
+    let x = n .before .before .before .before .before .before .before .args in
+    let taken = accepted n in
     let need = sym (n .needs-new .ensures) ∙ t .if2 .taken in
     add-room (x .log .now) (x .used) (x .sample .now) taken need
 
@@ -41,10 +44,8 @@ grow-block-requires : tie.Need-grow-block-requires
 grow-block-requires c κs =
     let t = c .before .before .before .before .before in
     let n = t .before in
-    let e = n .before .before in
-    let a = e .before in
-    let x = a .before .before .before .before .args in
-    let taken = sym (a .add-refusal .ensures) ∙ e .if1 .left in
+    let x = n .before .before .before .before .before .before .before .args in
+    let taken = accepted n in
     let need = sym (n .needs-new .ensures) ∙ t .if2 .taken in
     let room = add-room (x .log .now) (x .used) (x .sample .now) taken need in
     let (f, m) = opened-room (x .log .now) (x .used) room (c .before .before .before .open-block .last .0) (c .before .before .before .open-block .ensures) in
@@ -54,10 +55,8 @@ add-more : tie.Need-add-more
 add-more c =
     let t = c .before .before .before .before .before .before .before .before in
     let n = t .before in
-    let e = n .before .before in
-    let a = e .before in
-    let x = a .before .before .before .before .args in
-    let taken = sym (a .add-refusal .ensures) ∙ e .if1 .left in
+    let x = n .before .before .before .before .before .before .before .args in
+    let taken = accepted n in
     let need = sym (n .needs-new .ensures) ∙ t .if2 .taken in
     search (needs, add-room (x .log .now) (x .used) (x .sample .now) taken need)
 
@@ -68,24 +67,20 @@ returns-2 : tie.Need-returns-2
 returns-2 c =
     let t = c .before .before .before .before .before .before .before .before in
     let n = t .before in
-    let e = n .before .before in
-    let a = e .before in
-    let x = a .before .before .before .before .args in
-    let taken = sym (a .add-refusal .ensures) ∙ e .if1 .left in
+    let x = n .before .before .before .before .before .before .before .args in
+    let taken = accepted n in
     let need = sym (n .needs-new .ensures) ∙ t .if2 .taken in
     let room = add-room (x .log .now) (x .used) (x .sample .now) taken need in
     let o = c .before .before .before .before .before .before .open-block in
-    added-new (x .log .now) (x .used) (x .sample .now) _ (a .add-refusal .ensures) (e .if1 .left) need _
+    added-new (x .log .now) (x .used) (x .sample .now) _ (n .before .before .before .add-refusal .ensures) (n .before .before .if1 .left) need _
     (c .before .before .grow-block .ensures ∙ opened-grown (x .log .now) (x .used) room (o .last .0) (o .ensures) (x .sample .now))
 
 sub-grow-block : tie.Need-sub-grow-block
 sub-grow-block c =
     let t = c .before in
     let n = t .before in
-    let e = n .before .before in
-    let a = e .before in
-    let x = a .before .before .before .before .args in
-    let taken = sym (a .add-refusal .ensures) ∙ e .if1 .left in
+    let x = n .before .before .before .before .before .before .before .args in
+    let taken = accepted n in
     let need = sym (n .needs-new .ensures) ∙ t .if2 .left in
     add-last-room (x .log .now) (x .used) (x .sample .now) taken need .0
 
@@ -93,10 +88,8 @@ grow-block-requires-2 : tie.Need-grow-block-requires-2
 grow-block-requires-2 c κs =
     let t = c .before in
     let n = t .before in
-    let e = n .before .before in
-    let a = e .before in
-    let x = a .before .before .before .before .args in
-    let taken = sym (a .add-refusal .ensures) ∙ e .if1 .left in
+    let x = n .before .before .before .before .before .before .before .args in
+    let taken = accepted n in
     let need = sym (n .needs-new .ensures) ∙ t .if2 .left in
     let (u, f, m) = add-last-room (x .log .now) (x .used) (x .sample .now) taken need in
     (f, add-taken (x .log .now) (x .used) (x .sample .now) taken .0, m)
@@ -108,12 +101,10 @@ returns-3 : tie.Need-returns-3
 returns-3 c =
     let t = c .before .before .before .before in
     let n = t .before in
-    let e = n .before .before in
-    let a = e .before in
-    let x = a .before .before .before .before .args in
-    let taken = sym (a .add-refusal .ensures) ∙ e .if1 .left in
+    let x = n .before .before .before .before .before .before .before .args in
+    let taken = accepted n in
     let need = sym (n .needs-new .ensures) ∙ t .if2 .left in
-    added-last (x .log .now) (x .used) (x .sample .now) _ (a .add-refusal .ensures) (e .if1 .left) need _ (c .before .before .grow-block2 .ensures)
+    added-last (x .log .now) (x .used) (x .sample .now) _ (n .before .before .before .add-refusal .ensures) (n .before .before .if1 .left) need _ (c .before .before .grow-block2 .ensures)
 
 pub add-spec : {M : Type 1} → statement M
 add-spec =

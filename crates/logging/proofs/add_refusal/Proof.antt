@@ -1,8 +1,8 @@
 -- `logging::add_refusal` meets its contract.
 -- Assumes nothing.
-use borrow.Author.Needs.{needs}
 use mathlib.Core.Path.{refl, sym, _∙_}
 use lib.ListN.{length}
+use borrow.Author.Needs.{needs}
 use borrow.Author.Tests.{ne-eqb}
 use Rattle.log.specs.Block.{sampleSize}
 use Rattle.walking.proofs.Laws.{fits-in}

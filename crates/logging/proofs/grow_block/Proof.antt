@@ -1,10 +1,10 @@
 -- `logging::grow_block` meets its contract.
 -- Assumes nothing.
-use borrow.Author.Needs.{needs}
 use mathlib.Core.Path.{_≡_, ap, _∙_}
 use Prim.Native.Nat.{_+_, _-_, _*_}
 use native.Mathlib.Omega.{arith}
 use lib.ListN.{length}
+use borrow.Author.Needs.{needs}
 use Rattle.laws.proofs.Lists.{part-length}
 use Rattle.log.specs.Block.{blockSize, grown}
 use Rattle.log.specs.Log.{block, put}

@@ -1,7 +1,7 @@
 -- `logging::last_number` meets its contract.
 -- Assumes nothing.
-use borrow.Author.Needs.{needs}
 use mathlib.Core.Path.{ap, _∙_}
+use borrow.Author.Needs.{needs}
 use Rattle.log.specs.Block.{number}
 use Rattle.logging.proofs.Laws.{last-is}
 use Rattle.logging.proofs.last_number.Statement.{statement}

@@ -1,10 +1,10 @@
 -- `logging::open_block` meets its contract.
 -- Assumes nothing.
-use borrow.Author.Needs.{needs}
 use mathlib.Core.Path.{_≡_, ap, _∙_}
 use Prim.Native.Nat.{suc, _+_}
 use native.Mathlib.Numerals.{add-one}
 use lib.ListN.{length}
+use borrow.Author.Needs.{needs}
 use Rattle.log.specs.Block.{fresh}
 use Rattle.log.specs.Log.{lastNumber, put, newBlock}
 use Rattle.log.proofs.Blocks.{fresh-length}

@@ -1,8 +1,8 @@
 -- `logging::power_up` meets its contract.
 -- Assumes nothing.
+use mathlib.Core.Path.{sym, _∙_}
 use borrow.Author.Needs.{needs}
 use Rattle.log.proofs.Contracts.{power-up-refused, opened-new}
-use mathlib.Core.Path.{sym, _∙_}
 use Rattle.log.proofs.Calls.{power-up-room}
 use Rattle.logging.proofs.power_up.Statement.{statement}
 use Rattle.logging.proofs.power_up.Tie as tie

@@ -1,7 +1,7 @@
 -- `logging::power_up_refusal` meets its contract.
 -- Assumes nothing.
-use borrow.Author.Needs.{needs}
 use mathlib.Core.Path.{refl, sym, _∙_}
+use borrow.Author.Needs.{needs}
 use Rattle.walking.proofs.Laws.{fits-in}
 use Rattle.logging.proofs.Laws.{power-up-by-tests}
 use Rattle.logging.proofs.power_up_refusal.Statement.{statement}

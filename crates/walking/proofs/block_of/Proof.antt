@@ -1,9 +1,9 @@
 -- `walking::block_of` meets its contract.
 -- Assumes nothing.
-use borrow.Author.Needs.{needs}
 use mathlib.Core.Path.{_≡_, refl}
 use Prim.Native.Nat.{_+_, _-_, _*_}
 use native.Mathlib.Omega.{arith}
+use borrow.Author.Needs.{needs}
 use Rattle.laws.proofs.Lists.{part-length}
 use Rattle.log.specs.Block.{blockSize}
 use Rattle.walking.proofs.block_of.Statement.{statement}

@@ -1,12 +1,12 @@
 -- `walking::is_rising` meets its contract.
 -- Assumes nothing.
-use Prim.Native.Nat.{_+_, _-_, _≤_, _<_}
-use borrow.Author.Needs.{needs}
-use Rattle.log.specs.Log.{block, sound, lastNumber}
 use mathlib.Core.Path.{_≡_, refl, sym, ap, _∙_}
 use mathlib.Core.Bool.{true, false, false≢true}
+use Prim.Native.Nat.{_+_, _-_, _≤_, _<_}
 use native.Mathlib.Numerals.{add-one}
 use native.Mathlib.Omega.{arith}
+use borrow.Author.Needs.{needs}
+use Rattle.log.specs.Log.{block, sound, lastNumber}
 use Rattle.log.specs.Block.{number, soundBlock}
 use Rattle.walking.proofs.Laws.{follows-on, follows-not, counted-on, ends-number, ends-block, goes-on}
 use Rattle.walking.proofs.is_rising.Statement.{statement}

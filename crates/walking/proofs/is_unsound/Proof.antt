@@ -1,8 +1,8 @@
 -- `walking::is_unsound` meets its contract.
 -- Assumes nothing.
-use borrow.Author.Needs.{needs}
 use mathlib.Core.Path.{sym, _∙_}
 use mathlib.Core.Bool.{true, false, true≢false}
+use borrow.Author.Needs.{needs}
 use Rattle.walking.proofs.Laws.{uneven, too-many, by-walk}
 use Rattle.walking.proofs.is_unsound.Statement.{statement}
 use Rattle.walking.proofs.is_unsound.Tie as tie

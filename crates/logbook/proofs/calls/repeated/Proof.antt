@@ -1,9 +1,9 @@
 -- `logbook::calls::repeated` is safe and ends.
 -- Assumes nothing.
-use borrow.Author.Needs.{needs}
+use mathlib.Core.Path.{_≡_}
 use Prim.Native.Nat.{_-_}
 use lib.ListN.{length}
-use mathlib.Core.Path.{_≡_}
+use borrow.Author.Needs.{needs}
 use Rattle.logbook.proofs.calls.repeated.Statement.{statement}
 use Rattle.logbook.proofs.calls.repeated.Tie as tie
 
