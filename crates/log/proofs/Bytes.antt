@@ -1,9 +1,9 @@
 -- Memory of bytes stays memory of bytes.
 -- Assumes nothing.
-use mathlib.Core.Path.{_≡_, refl}
+use mathlib.Core.Path.{_≡_}
 use mathlib.Core.Bool.{false, _&&_}
-use mathlib.Core.List.{List, [], _∷_}
-use Prim.Native.Nat.{ℕ, zero, suc, _+_, _-_, _*_, _≤_, _<_}
+use mathlib.Core.List.{List}
+use Prim.Native.Nat.{ℕ, zero, suc, _-_, _*_, _<_}
 use native.Mathlib.Omega.{arith}
 use lib.Dec.{ltb, eqb}
 use lib.ListN.{length}
@@ -11,19 +11,14 @@ use borrow.Author.Tests.{ltb-true, ltb-false}
 use Rattle.laws.specs.Tests.{if_then_else_, covers}
 use Rattle.laws.specs.Lists.{at, table, patch}
 use Rattle.laws.proofs.Tests.{case, if-elim}
-use Rattle.laws.proofs.Lists.{table-length, table-at, part-length, part-at}
+use Rattle.laws.proofs.Lists.{table-length, table-at}
 use Rattle.log.specs.Block.{blockSize, sampleSize, countAt, count, mostSamples, slot, roomEnd, checkOf, sealed, numberBytes, fresh, grown}
 use Rattle.log.specs.Log.{block, needsNew, noneLeft, put, newBlock, afterPowerUp, afterAdd, lastNumber}
 use Rattle.log.specs.Contracts.{Bytes}
 use Rattle.log.proofs.Blocks.{fresh-count}
 use Rattle.log.proofs.Fits.{Fit}
+use Rattle.log.proofs.Logs.{past-end, bytes-block}
 use Rattle.log.proofs.Calls.{add-elim}
-
--- past the end there is 0
-past-end : (s : List ℕ) (i : ℕ) → length s ≤ i → at s i ≡ 0
-past-end [] i h = refl
-past-end (x ∷ xs) zero h = absurd (omega arith)
-past-end (x ∷ xs) (suc i) h = past-end xs i (omega arith)
 
 pub bytes-table : (n : ℕ) (f : ℕ → ℕ) → ((i : ℕ) → i < n → f i < 256) → Bytes (table n f)
 bytes-table n f small i = case (ltb i n)
@@ -59,11 +54,6 @@ bytes-grown b x l s h =
     bytes-sealed (λ i. if eqb i countAt then suc (count b) else (if covers (slot (count b)) sampleSize i then at x (i - slot (count b)) else at b i))
     (λ i. if-elim (λ n. n < 256) (eqb i countAt) (λ t. omega arith)
     (λ t. if-elim (λ n. n < 256) (covers (slot (count b)) sampleSize i) (λ u. s (i - slot (count b))) (λ u. l i)))
-
-pub bytes-block : (log : List ℕ) (n : ℕ) → Bytes log → blockSize * n + blockSize ≤ length log → Bytes (block log n)
-bytes-block log n l h i = case (ltb i blockSize)
-    (λ t. rw (part-at (blockSize * n) blockSize log h i (ltb-true i blockSize t)) (l (blockSize * n + i)))
-    (λ t. let k = ltb-false i blockSize t in rw (past-end (block log n) i (rw (part-length (blockSize * n) blockSize log h) k)) (omega arith))
 
 -- after a power-up, and after an add that is not refused
 pub power-up-bytes : (log : List ℕ) (used : ℕ) → Bytes log → Bytes (afterPowerUp log used)

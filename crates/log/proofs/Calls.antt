@@ -13,13 +13,13 @@ use borrow.Author.Tests.{eqb-true, eqb-false, leb-false, not-true, not-false}
 use Rattle.laws.specs.Tests.{if_then_else_}
 use Rattle.laws.specs.Lists.{at}
 use Rattle.laws.proofs.Tests.{case, and-left, and-right, or-left, or-right}
-use Rattle.laws.proofs.Lists.{part-length, part-at}
+use Rattle.laws.proofs.Lists.{part-length}
 use Rattle.laws.proofs.Rows.{first-none}
 use Rattle.log.specs.Block.{blockSize, sampleSize, number, count, mostSamples, samplesIn, soundBlock, grown}
 use Rattle.log.specs.Log.{blocks, block, samples, lastNumber, needsNew, put, newBlock, afterPowerUp, afterAdd, usedAfter, wrongSample, unsound, noneLeft, addRows, powerUpRows}
 use Rattle.log.specs.Contracts.{addRefusal, powerUpRefusal, Bytes}
 use Rattle.log.proofs.Blocks.{fresh-length, fresh-count, fresh-samples, fresh-sound, fresh-number, grown-length, grown-number, grown-samples, grown-sound}
-use Rattle.log.proofs.Logs.{sound-less, sound-block, sound-follows, put-length, put-else, put-here}
+use Rattle.log.proofs.Logs.{sound-less, sound-block, sound-follows, put-length, put-else, put-here, bytes-block}
 use Rattle.log.proofs.Fits.{Fit, fit, Next, next-of, next-new, put-fit, put-samples}
 
 -- ---- a power-up
@@ -28,11 +28,11 @@ use Rattle.log.proofs.Fits.{Fit, fit, Next, next-of, next-new, put-fit,
 pub next-small : (log : List ℕ) (used : ℕ) → Bytes log → used ≤ blocks log → lastNumber log used ≢ 4294967295 → suc (lastNumber log used) < 4294967296
 next-small log zero bytes h d = omega arith
 next-small log (suc n) bytes h d =
-    let byte : (i : ℕ) → i < blockSize → at (block log n) i < 256 = λ i l. rw (part-at (blockSize * n) blockSize log (omega arith) i l) (bytes (blockSize * n + i)) in
-    let b₀ = byte 0 (omega arith) in
-    let b₁ = byte 1 (omega arith) in
-    let b₂ = byte 2 (omega arith) in
-    let b₃ = byte 3 (omega arith) in
+    let byte = bytes-block log n bytes (omega arith) in
+    let b₀ = byte 0 in
+    let b₁ = byte 1 in
+    let b₂ = byte 2 in
+    let b₃ = byte 3 in
     omega (arith, d)
 
 -- what is not refused 14

@@ -19,9 +19,8 @@ use Rattle.log.specs.Block.{blockSize, roomEnd, first510, checkOf, seale
 use Rattle.log.specs.Log.{block, unsound}
 use Rattle.log.specs.Contracts.{Bytes}
 use Rattle.log.proofs.Blocks.{holds-at, sealed-same, sound-ended}
-use Rattle.log.proofs.Logs.{sound-block}
+use Rattle.log.proofs.Logs.{sound-block, bytes-block}
 use Rattle.log.proofs.Fits.{Fit, fit}
-use Rattle.log.proofs.Bytes.{bytes-block}
 
 -- two tables that differ at one place alone
 sum-change : (n : ℕ) (f g : ℕ → ℕ) (j : ℕ) → j < n → ((i : ℕ) → i < n → i ≢ j → g i ≡ f i) → sum (table n g) + f j ≡ sum (table n f) + g j

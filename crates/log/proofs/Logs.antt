@@ -12,8 +12,9 @@ use lib.Seq.{getD-append-seam}
 use borrow.Author.Tests.{eqb-true, eqb-false, ltb-true, ltb-false}
 use Rattle.laws.specs.Lists.{at, part, patch}
 use Rattle.laws.proofs.Tests.{case, and-left, and-right, and-both}
-use Rattle.laws.proofs.Lists.{patch-length, patch-in, patch-else, is-patch}
+use Rattle.laws.proofs.Lists.{patch-length, patch-in, patch-else, is-patch, part-length, part-at}
 use Rattle.laws.proofs.Parts.{is-part, part-same, part-tail}
+use Rattle.log.specs.Contracts.{Bytes}
 use Rattle.log.specs.Block.{blockSize, sampleSize, count, slot, samplesTo, samplesIn, soundBlock}
 use Rattle.log.specs.Log.{block, follows, sound, samples, total, put}
 
@@ -137,3 +138,16 @@ put-put log i a b h =
     is-patch (blockSize * i) blockSize (at b) log (patch (blockSize * i) blockSize (at b) p) (patch-length (blockSize * i) blockSize (at b) p ∙ l)
     (λ j k m. patch-in (blockSize * i) blockSize (at b) p j k (omega arith))
     (λ j k no. patch-else (blockSize * i) blockSize (at b) p j (omega arith) no ∙ patch-else (blockSize * i) blockSize (at a) log j k no)
+
+-- ---- a block of memory of bytes
+
+-- past the end there is 0
+pub past-end : (s : List ℕ) (i : ℕ) → length s ≤ i → at s i ≡ 0
+past-end [] i h = refl
+past-end (x ∷ xs) zero h = absurd (omega arith)
+past-end (x ∷ xs) (suc i) h = past-end xs i (omega arith)
+
+pub bytes-block : (log : List ℕ) (n : ℕ) → Bytes log → blockSize * n + blockSize ≤ length log → Bytes (block log n)
+bytes-block log n l h i = case (ltb i blockSize)
+    (λ t. rw (part-at (blockSize * n) blockSize log h i (ltb-true i blockSize t)) (l (blockSize * n + i)))
+    (λ t. let k = ltb-false i blockSize t in rw (past-end (block log n) i (rw (part-length (blockSize * n) blockSize log h) k)) (omega arith))
