@@ -18,18 +18,24 @@ static const uint8_t all_ff[ZIKHRODAN_SAMPLE_LEN] = {
     0xff, 0xff, 0xff, 0xff, 0xff, 0xff, 0xff, 0xff, 0xff, 0xff, 0xff, 0xff, 0xff, 0xff, 0xff, 0xff,
     0xff, 0xff, 0xff, 0xff, 0xff, 0xff, 0xff, 0xff, 0xff, 0xff, 0xff, 0xff, 0xff, 0xff, 0xff,
 };
+/* Every status bit but Rx3's loss of signal. */
+static const uint8_t all_but_rx3[ZIKHRODAN_SAMPLE_LEN] = {0xfb, 0xff, 0xff};
 /* Page 02h is the first byte, so that a write of it at 127 selects what was selected. */
 static const uint8_t written[ZIKHRODAN_WRITE_MAX] = {2, 0x50, 0xa0, 0xf0};
 
 #define OF_LOWER(n) READ, .port = 1, .address = 0, .count = n
 #define OF_PAGE(p, n) READ, .page = p, .port = 1, .address = 128, .count = n
 #define WRITTEN(p, a, n) WRITE, .page = p, .port = 1, .address = a, .count = n
-#define A_LOG(n, l) .sample = in_range, .used = 1, .each = n, .last = l
+#define A_LOG_OF(s, n, l) .sample = s, .used = 1, .each = n, .last = l
+#define A_LOG(n, l) A_LOG_OF(in_range, n, l)
 #define OF_FULL A_LOG(16, 16)
 #define OF_HALF A_LOG(8, 8)
 #define OF_EMPTY A_LOG(0, 0)
 #define PAST .position = PAST_THE_LAST, .refusal = 17
 #define BLOCKS_OF(n) {"log sample, blocks of " #n ": refused 17", LOG_SAMPLE, A_LOG(n, n), PAST}
+#define OLD_BLOCKS_OF(n) {"log sample, old blocks of " #n ": refused 17", LOG_SAMPLE, A_LOG(n, n), PAST, .summaries = OLD}
+#define FOR_RX3 .bit = 2 /* loss of signal */
+#define NO_SAMPLE .position = PAST_THE_LAST
 
 const struct one_call cases[] = {
     {"reset", .call = RESET},
@@ -79,6 +85,9 @@ const struct one_call cases[] = {
     {"log add, full blocks but for the last", LOG_ADD, A_LOG(16, 15)},
     {"log add, half-full blocks", LOG_ADD, OF_HALF},
     {"log add, empty blocks", LOG_ADD, OF_EMPTY},
+    {"log add, half-full blocks, all FFh", LOG_ADD, A_LOG_OF(all_ff, 8, 8)},
+    {"log add, old full blocks, into a new one", LOG_ADD, OF_FULL, .summaries = OLD},
+    {"log add, old full blocks but for the last", LOG_ADD, A_LOG(16, 15), .summaries = OLD},
     {"log add: refused 8", LOG_ADD, OF_FULL, .wrong = SAMPLE_SIZE, .refusal = 8},
     {"log add: refused 15, size", LOG_ADD, OF_FULL, .wrong = LOG_SIZE, .refusal = 15},
     {"log add: refused 15, first block", LOG_ADD, OF_FULL, .wrong = FIRST_BLOCK, .refusal = 15},
@@ -87,6 +96,7 @@ const struct one_call cases[] = {
     {"log power-up, full blocks", LOG_POWER_UP, OF_FULL},
     {"log power-up, half-full blocks", LOG_POWER_UP, OF_HALF},
     {"log power-up, empty blocks", LOG_POWER_UP, OF_EMPTY},
+    {"log power-up, old full blocks", LOG_POWER_UP, OF_FULL, .summaries = OLD},
     {"log power-up: refused 14", LOG_POWER_UP, OF_FULL, .wrong = NONE_UNUSED, .refusal = 14},
     {"log sample, full blocks, the first", LOG_SAMPLE, OF_FULL, .position = THE_FIRST},
     {"log sample, full blocks, the last", LOG_SAMPLE, OF_FULL, .position = THE_LAST},
@@ -95,6 +105,26 @@ const struct one_call cases[] = {
     {"log sample: refused 17", LOG_SAMPLE, OF_FULL, PAST},
     BLOCKS_OF(0), BLOCKS_OF(1), BLOCKS_OF(2), BLOCKS_OF(3), BLOCKS_OF(4), BLOCKS_OF(5), BLOCKS_OF(6), BLOCKS_OF(7), BLOCKS_OF(8),
     BLOCKS_OF(9), BLOCKS_OF(10), BLOCKS_OF(11), BLOCKS_OF(12), BLOCKS_OF(13), BLOCKS_OF(14), BLOCKS_OF(15), BLOCKS_OF(16),
+    OLD_BLOCKS_OF(0), OLD_BLOCKS_OF(1), OLD_BLOCKS_OF(2), OLD_BLOCKS_OF(3), OLD_BLOCKS_OF(4), OLD_BLOCKS_OF(5), OLD_BLOCKS_OF(6),
+    OLD_BLOCKS_OF(7), OLD_BLOCKS_OF(8), OLD_BLOCKS_OF(9), OLD_BLOCKS_OF(10), OLD_BLOCKS_OF(11), OLD_BLOCKS_OF(12),
+    OLD_BLOCKS_OF(13), OLD_BLOCKS_OF(14), OLD_BLOCKS_OF(15), OLD_BLOCKS_OF(16),
+    {"log first, full blocks, none", LOG_FIRST, OF_FULL, FOR_RX3, NO_SAMPLE},
+    {"log first, full blocks, none, bit 12", LOG_FIRST, OF_FULL, .bit = 12, NO_SAMPLE},
+    {"log first, full blocks, none, bit 23", LOG_FIRST, OF_FULL, .bit = 23, NO_SAMPLE},
+    {"log first, full blocks, none, all other bits", LOG_FIRST, A_LOG_OF(all_but_rx3, 16, 16), FOR_RX3, NO_SAMPLE},
+    {"log first, half-full blocks, none", LOG_FIRST, OF_HALF, FOR_RX3, NO_SAMPLE},
+    {"log first, empty blocks, none", LOG_FIRST, OF_EMPTY, FOR_RX3, NO_SAMPLE},
+    {"log first, full blocks, the first", LOG_FIRST, OF_FULL, FOR_RX3, .position = THE_FIRST},
+    {"log first, full blocks, the last", LOG_FIRST, OF_FULL, FOR_RX3, .position = THE_LAST},
+    {"log first, old full blocks, none", LOG_FIRST, OF_FULL, FOR_RX3, NO_SAMPLE, .summaries = OLD},
+    {"log first, old half-full blocks, none", LOG_FIRST, OF_HALF, FOR_RX3, NO_SAMPLE, .summaries = OLD},
+    {"log first, old empty blocks, none", LOG_FIRST, OF_EMPTY, FOR_RX3, NO_SAMPLE, .summaries = OLD},
+    {"log first, old full blocks, the last", LOG_FIRST, OF_FULL, FOR_RX3, .position = THE_LAST, .summaries = OLD},
+    {"log first, full blocks with every bit, none", LOG_FIRST, OF_FULL, FOR_RX3, NO_SAMPLE, .summaries = EVERY_BIT},
+    {"log first: refused 15, size", LOG_FIRST, OF_FULL, FOR_RX3, NO_SAMPLE, .wrong = LOG_SIZE, .refusal = 15},
+    {"log first: refused 15, last block", LOG_FIRST, OF_FULL, FOR_RX3, NO_SAMPLE, .wrong = LAST_COUNT, .refusal = 15},
+    {"log first, the first: refused 15, last block", LOG_FIRST, OF_FULL, FOR_RX3, .wrong = LAST_COUNT, .refusal = 15},
+    {"log first: refused 17", LOG_FIRST, OF_FULL, .bit = 24, NO_SAMPLE, .refusal = 17},
 };
 const unsigned many_cases = sizeof cases / sizeof cases[0];
 

@@ -6,13 +6,17 @@
 
 #include <stdbool.h>
 
-enum call { RESET, SAMPLE, READ, WRITE, IDENTITY, KIND, VALUE, LIMITS, LIMIT, LOG_ADD, LOG_POWER_UP, LOG_SAMPLE };
+enum call { RESET, SAMPLE, READ, WRITE, IDENTITY, KIND, VALUE, LIMITS, LIMIT, LOG_ADD, LOG_POWER_UP, LOG_SAMPLE, LOG_FIRST };
 
-/* What is wrong with a log's call: a byte less in the sample, one more in the memory, a used block's sum, no unused block. */
-enum wrong { NOTHING, SAMPLE_SIZE, LOG_SIZE, FIRST_BLOCK, LAST_BLOCK, NONE_UNUSED };
+/* What is wrong with a log's call: a byte less in the sample, one more in the memory, a used block's sum, no unused block, the
+ * last used block's count. */
+enum wrong { NOTHING, SAMPLE_SIZE, LOG_SIZE, FIRST_BLOCK, LAST_BLOCK, NONE_UNUSED, LAST_COUNT };
 
-/* The position that is read. */
+/* The position that is read, or that of the one sample with the bit that is searched for: past the last, no sample has it. */
 enum position { THE_FIRST, THE_LAST, PAST_THE_LAST };
+
+/* The summaries of a log's blocks: those that are due; none, as in old blocks; or every bit, which makes the log unsound. */
+enum summaries { DUE, OLD, EVERY_BIT };
 
 struct one_call {
     const char *name;
@@ -26,6 +30,8 @@ struct one_call {
     unsigned each, last;            /* the samples of each of them, and of the last */
     enum wrong wrong;
     enum position position;
+    enum summaries summaries;
+    uint64_t bit;                   /* that is searched for */
     unsigned refusal;               /* that the call has to give */
 };
 

@@ -1,5 +1,5 @@
 """counting.py: runs the programs that bench/run has built, counts and times their calls, and lays the numbers out. Imported by
-measure.py and logs.py.
+measure.py, logs.py and store.py.
 
 A run of some repeats less a run of fewer is the calls between and what the program does around each; the program with the idle
 engine takes the latter and one instruction a call. EMULATOR is set by measure.py; it is empty on x86-64.
@@ -13,6 +13,7 @@ from fractions import Fraction
 WORK = "build/bench"
 ENGINES = {"library": "library", "direct-O2": "C -O2", "direct-O3": "C -O3"}
 EMULATOR = ""
+PRINTED = []  # the tables, each the list of its lines
 
 
 def stop(status, line):
@@ -87,7 +88,7 @@ def times(cases):
     for _ in range(5):
         for case in cases:
             for engine in (*ENGINES, "idle"):
-                taken = float(program(engine, "time", case[0]))
+                taken = float(program(engine, "time", *case))
                 best[engine, case] = min(taken, best.get((engine, case), taken))
     return {(e, c): best[e, c] - best["idle", c] for e in ENGINES for c in cases}
 
@@ -107,6 +108,9 @@ def marks(costs):
 def table(head, rows):
     widths = [max(len(cell) for cell in column) for column in zip(head, *rows)]
     rule = ["-" * widths[0], *("-" * (width - 1) + ":" for width in widths[1:])]
+    lines = []
     for row in (head, rule, *rows):
         cells = [row[0].ljust(widths[0]), *map(str.rjust, row[1:], widths[1:])]
-        print("| " + " | ".join(cells) + " |")
+        lines.append("| " + " | ".join(cells) + " |")
+    print(*lines, sep="\n", flush=True)
+    PRINTED.append(lines)

@@ -1,5 +1,5 @@
-/* direct.c: the plain C engine: the state changed where it lies, a read address by address, a write byte by byte; a log's
- * blocks one after the other, and none written but the last. See direct.h.
+/* direct.c: the plain C engine: the state changed where it lies, a read address by address, a write byte by byte; its calls on a
+ * log are in direct_log.c. See direct.h.
  *
  * The rules are those of tests/plain, the engine that the library is compared with. Their sources are included and not linked, so
  * that all is one translation unit, every function is static, and the compiler can inline. */
@@ -10,11 +10,6 @@
 #include "../tests/plain/ports.c"
 #include "../tests/plain/refusals.c"
 #include "../tests/plain/values.c"
-
-/* A block is checked in a way of its own, below. */
-#undef LINKAGE
-#define LINKAGE static __attribute__((unused))
-#include "../tests/plain/blocks.c"
 
 uint32_t direct_reset(uint8_t *state, size_t state_len, const uint8_t *image, size_t image_len)
 {
@@ -94,88 +89,4 @@ uint32_t direct_limits_refusal(const uint8_t *state, size_t state_len, uint64_t 
 double direct_limit(const uint8_t *state, size_t state_len, uint64_t quantity, uint64_t which)
 {
     return state_len == STATE_LEN ? limit_of(state, quantity, which) : 0.0;
-}
-
-/* ---- the log */
-
-/* sound_block of blocks.c, which looks at unused room twice; here no byte is looked at twice. */
-static bool sound_in_one_pass(const uint8_t *block)
-{
-    unsigned count = block_count(block), end = sample_start(count), sum = 0;
-    uint8_t rest = 0;
-
-    if (count > BLOCK_SAMPLES)
-        return false;
-    for (unsigned i = 0; i < end; i++)
-        sum += block[i];
-    for (unsigned i = end; i < SUM_AT; i++)
-        rest |= block[i];
-    return rest == 0 && block[SUM_AT] == (uint8_t)(sum >> 8) && block[SUM_AT + 1] == (uint8_t)sum;
-}
-
-/* Refusal 15: the size, or any used block. */
-static bool unsound(const uint8_t *log, size_t log_len, uint64_t used)
-{
-    if (log_len % BLOCK_LEN != 0 || used > log_len / BLOCK_LEN)
-        return true;
-    for (const uint8_t *block = log, *end = log + used * BLOCK_LEN; block < end; block += BLOCK_LEN) {
-        if (!sound_in_one_pass(block))
-            return true;
-        if (block > log && block_number(block) != (uint64_t)block_number(block - BLOCK_LEN) + 1)
-            return true;
-    }
-    return false;
-}
-
-/* Refusal 14, where a new block is needed. */
-static bool none_left(const uint8_t *log, size_t log_len, uint64_t used)
-{
-    return used == log_len / BLOCK_LEN || (used && block_number(log + (used - 1) * BLOCK_LEN) == LAST_NUMBER);
-}
-
-static uint32_t next_number(const uint8_t *log, uint64_t used)
-{
-    return used ? block_number(log + (used - 1) * BLOCK_LEN) + 1 : 1;
-}
-
-uint64_t direct_log_add(uint8_t *log, size_t log_len, uint64_t used, const uint8_t *sample, size_t sample_len)
-{
-    if (sample_len != SAMPLE_LEN)
-        return 8;
-    if (unsound(log, log_len, used))
-        return 15;
-    if (used && block_count(log + (used - 1) * BLOCK_LEN) < BLOCK_SAMPLES) {
-        uint8_t *last = log + (used - 1) * BLOCK_LEN;
-        memcpy(last + sample_start(block_count(last)), sample, SAMPLE_LEN);
-        last[COUNT_AT]++;
-        write_ending(last);
-        return used << 8;
-    }
-    if (none_left(log, log_len, used))
-        return 14;
-    write_block(log + used * BLOCK_LEN, next_number(log, used), 1, sample);
-    return (used + 1) << 8;
-}
-
-uint64_t direct_log_power_up(uint8_t *log, size_t log_len, uint64_t used)
-{
-    if (unsound(log, log_len, used))
-        return 15;
-    if (none_left(log, log_len, used))
-        return 14;
-    write_block(log + used * BLOCK_LEN, next_number(log, used), 0, NULL);
-    return (used + 1) << 8;
-}
-
-uint64_t direct_log_sample(const uint8_t *log, size_t log_len, uint64_t used, uint64_t position)
-{
-    if (unsound(log, log_len, used))
-        return 15;
-    for (uint64_t i = 0; i < used; i++) {
-        unsigned count = block_count(log + i * BLOCK_LEN);
-        if (position < count)
-            return (i * BLOCK_LEN + sample_start((unsigned)position)) << 8;
-        position -= count;
-    }
-    return 17;
 }

@@ -1,4 +1,4 @@
-/* direct.h: a plain C engine, to measure the library beside: the twelve functions of zikhrodan.h with the prefix direct_. That
+/* direct.h: a plain C engine, to measure the library beside: the thirteen functions of zikhrodan.h with the prefix direct_. That
  * header itself declares them, under these names, so a source has one engine or the other. */
 #ifndef DIRECT_H
 #define DIRECT_H
@@ -15,6 +15,7 @@
 #define zikhrodan_log_add direct_log_add
 #define zikhrodan_log_power_up direct_log_power_up
 #define zikhrodan_log_sample direct_log_sample
+#define zikhrodan_log_first direct_log_first
 
 #include "../include/zikhrodan.h"
 

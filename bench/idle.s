@@ -1,8 +1,8 @@
-# idle.s: the twelve functions of zikhrodan.h, each of which only returns: one instruction. What a program linked with them takes
-# is what every engine's program takes besides its engine.
+# idle.s: the thirteen functions of zikhrodan.h, each of which only returns: one instruction. What a program linked with them
+# takes is what every engine's program takes besides its engine.
         .globl  zikhrodan_reset, zikhrodan_sample, zikhrodan_read, zikhrodan_write, zikhrodan_identity
         .globl  zikhrodan_monitor_kind, zikhrodan_monitor_value, zikhrodan_limits_refusal, zikhrodan_limit
-        .globl  zikhrodan_log_add, zikhrodan_log_power_up, zikhrodan_log_sample
+        .globl  zikhrodan_log_add, zikhrodan_log_power_up, zikhrodan_log_sample, zikhrodan_log_first
         .text
 zikhrodan_reset:
 zikhrodan_sample:
@@ -16,5 +16,6 @@ zikhrodan_limit:
 zikhrodan_log_add:
 zikhrodan_log_power_up:
 zikhrodan_log_sample:
+zikhrodan_log_first:
         ret
         .section .note.GNU-stack, "", @progbits

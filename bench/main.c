@@ -4,7 +4,7 @@
  *   PROGRAM make CASE REPEATS [COUNT]    makes the calls and prints nothing
  *   PROGRAM show CASE REPEATS [COUNT]    makes them, and prints the last answer, the state, the output memory and what the last
  *                                        call changed in the log
- *   PROGRAM time CASE                    nanoseconds of one call, with the loop around it, of 20 ms or more of them
+ *   PROGRAM time CASE [COUNT]            nanoseconds of one call, with the loop around it, of 20 ms or more of them
  *
  * COUNT is the length of the read or write, or the log's used blocks, in place of the case's own. Each call finds the same
  * records and log, so that a read finds the flags up that the read before it cleared. Exit status 1 if a call does not answer as
@@ -50,6 +50,8 @@ static void show(const struct one_call *c)
 
     if (!is_number && zikhrodan_refusal_of((uint32_t)answer) != c->refusal)
         stop(1, "it does not give the refusal that its case says", c->name);
+    if (c->call == LOG_FIRST && !is_found(c, answer))
+        stop(1, "it does not find the sample that its case says", c->name);
     printf("answer %016" PRIx64 "\n", answer);
     print_bytes("state", state, sizeof state);
     print_bytes("out", out, sizeof out);
@@ -70,7 +72,7 @@ static double nanoseconds(const struct one_call *c, uint64_t repeats)
 
 static void measure(const struct one_call *c)
 {
-    uint64_t repeats = 10000;
+    uint64_t repeats = 1;
     double taken = nanoseconds(c, repeats);
 
     while (taken < 20e6) {
@@ -112,18 +114,19 @@ int main(int count, char **words)
         list();
         return 0;
     }
-    bool timed = count == 3 && !strcmp(words[1], "time"), shown = count >= 4 && !strcmp(words[1], "show");
+    bool timed = count >= 3 && !strcmp(words[1], "time"), shown = count >= 4 && !strcmp(words[1], "show");
     bool made = count >= 4 && !strcmp(words[1], "make");
-    if (count > 5 || !(timed || shown || made))
-        stop(2, "list | make CASE REPEATS [COUNT] | show CASE REPEATS [COUNT] | time CASE", "usage");
+    int most = timed ? 4 : 5;
+    if (count > most || !(timed || shown || made))
+        stop(2, "list | make CASE REPEATS [COUNT] | show CASE REPEATS [COUNT] | time CASE [COUNT]", "usage");
 
     struct one_call c = find(words[2]);
-    if (count == 5)
-        *(c.used ? &c.used : &c.count) = number(words[4]);
+    if (count == most)
+        *(c.used ? &c.used : &c.count) = number(words[most - 1]);
     if (c.count > ZIKHRODAN_READ_MAX || (c.call == WRITE && c.count > ZIKHRODAN_WRITE_MAX) || c.used > MOST_USED)
-        stop(2, "more bytes than are lent", words[4]);
+        stop(2, "more bytes than are lent", words[most - 1]);
     if (c.call >= LOG_ADD && c.used == 0)
-        stop(2, "no block is used", words[4]);
+        stop(2, "no block is used", words[most - 1]);
     if (!set_up(&c) && shown)
         stop(1, "it cannot be set up", c.name);
     if (shown)

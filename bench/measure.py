@@ -1,8 +1,9 @@
 """measure.py: counts and times the calls of the programs that bench/run has built, and prints the tables.
 
-  python3 -B bench/measure.py --table | --check | --limits | --growth EMULATOR TOOLCHAIN
+  python3 -B bench/measure.py --table | --check | --limits | --growth | --store EMULATOR TOOLCHAIN COMPILER COUNTER
 
-EMULATOR is empty on x86-64; TOOLCHAIN is what the library was compiled by. Exit status as bench/run says.
+EMULATOR is empty on x86-64; TOOLCHAIN is what the library was compiled by, COMPILER what plain C was, COUNTER what counts. Exit
+status as bench/run says.
 """
 import re
 import signal
@@ -10,11 +11,11 @@ import sys
 
 import counting
 import logs
+import store
 from counting import ENGINES, costs, is_log, marks, program, shown, stop, table, times
 
-LIMITS = {"reset": 500, "sample": 1500, "read 128": 1300, "write 1": 350}  # by how a case's name begins
-MODE, counting.EMULATOR, TOOLCHAIN = sys.argv[1:]
-STORED = "docs/PERFORMANCE.md"
+LIMITS = {"reset": 500, "sample": 1500, "read 128": 1300, "write 1": 350}  # by how a case's name begins; logs.LIMITS has more
+MODE, counting.EMULATOR, TOOLCHAIN, COMPILER, COUNTER = sys.argv[1:]
 
 
 def check(cases):
@@ -38,6 +39,15 @@ def the_table(cases):
         rows.append(row + ([f"{time[engine, case]:.1f}" for engine in ENGINES] if time else []))
     table(head, rows)
     marks(cost.values())
+    return {start: [cost["library", case] for case in cases if case[0].startswith(start)] for start in LIMITS}
+
+
+def reached(costs):
+    """What LIMITS and logs.LIMITS are held against, least and most: {how the names begin, or what it is: the costs}."""
+    rows = [[what, str(most), " to ".join(map(shown, sorted({min(costs[what]), max(costs[what])})))]
+            for what, most in (LIMITS | logs.LIMITS).items()]
+    print()
+    table(["Limit", "at most", "reached"], rows)
 
 
 def growth():
@@ -54,11 +64,10 @@ def growth():
 
 def stored():
     """The text with the stored tables; nothing where they are of another toolchain."""
-    with open(STORED, encoding="utf-8") as file:
-        text = file.read()
-    if f"The library by {TOOLCHAIN}," in text:
+    text = store.text()
+    if store.by(TOOLCHAIN) in text:
         return text
-    print(f"-- the tables of {STORED} are of another toolchain, and are not compared")
+    print(f"-- the tables of {store.STORED} are of another toolchain, and are not compared")
     return ""
 
 
@@ -80,7 +89,7 @@ def limits(cases, names_of_logs):
         rows = re.findall(r"^\| ([^|]+?) +\| +(\d+) \|(?: +\S+ \|){4}", text, re.M)
         table_has = {(name,): number for name, number in rows if (name,) in most}
         right = table_has == {case: shown(cost["library", case]) for case in most}
-        verdicts[f"these are the numbers of {STORED}"] = right and log_numbers.items() <= logs.stored(text).items()
+        verdicts[f"these are the numbers of {store.STORED}"] = right and log_numbers.items() <= logs.stored(text).items()
     for said, right in verdicts.items():
         print(f"{'ok' if right else 'FAILED'} {said}")
     marks(cost.values())
@@ -94,10 +103,14 @@ every = [(name,) for name in program("library", "list").splitlines()]
 cases, names_of_logs = [case for case in every if not is_log(case)], [case[0] for case in every if is_log(case)]
 if MODE == "--limits":
     limits(cases, names_of_logs)
-elif MODE == "--growth":
-    growth()
-else:
+if MODE == "--store" and counting.EMULATOR:
+    stop(2, f"the tables of {store.STORED} have times, which an emulator has not")
+print(f"-- the library by {TOOLCHAIN}\n-- plain C by {COMPILER}\n-- counted by {COUNTER}", flush=True)
+if MODE != "--growth":
     check(cases + logs.cases(names_of_logs))
-    if MODE == "--table":
-        the_table(cases)
-        logs.tables(names_of_logs)
+if MODE in ("--table", "--store"):
+    reached(the_table(cases) | logs.tables(names_of_logs))
+if MODE in ("--growth", "--store"):
+    growth()
+if MODE == "--store":
+    store.put(counting.PRINTED, TOOLCHAIN, COMPILER, COUNTER)

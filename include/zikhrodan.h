@@ -7,8 +7,8 @@
  *   - each pointer is good for as many bytes as the length beside it says (for none where that is 0; it may then be null);
  *   - memory lent to one call does not overlap, and nobody else touches it during the call.
  *
- * What each call does is document 01's, and of a log document 02's (Ask 1); it is proved for every input: docs/EXAMINER.md says of
- * what, and what is assumed. The helpers and names of this header are not proved: they take an answer apart, or name a number, and
+ * What each call does is document 01's, and of a log document 02's (Ask 1, Ask 9); it is proved for every input:
+ * docs/EXAMINER.md says of what, and what is assumed. The helpers and names of this header are not proved: they take an answer apart, or name a number, and
  * decide nothing. */
 #ifndef ZIKHRODAN_H
 #define ZIKHRODAN_H
@@ -81,7 +81,7 @@ static inline const char *zikhrodan_words(uint32_t refusal)
     case ZIKHRODAN_NO_SUCH_MONITOR: return "the monitor number is above 13, or the quantity above 4";
     case ZIKHRODAN_LOG_FULL: return "a new block is needed, and none is unused or the last one's number is 4294967295";
     case ZIKHRODAN_UNSOUND_LOG: return "the log isn't whole blocks, has fewer than are used, or is unsound";
-    case ZIKHRODAN_NO_SUCH_SAMPLE: return "the position is past the last sample";
+    case ZIKHRODAN_NO_SUCH_SAMPLE: return "the position is past the last sample, or the status bit is above 23";
     default: return "no refusal has this number";
     }
 }
@@ -231,8 +231,10 @@ double zikhrodan_limit(const uint8_t *state, size_t state_len, uint64_t quantity
  * A log is memory of whole blocks of 512 bytes, of which the first `used` are used; unused ones may hold anything. It is no port's
  * memory: no call of the module reads or changes it. With no block used it is sound, whatever the memory holds: a log begins with
  * `used` 0. The caller keeps the used number from call to call.
- * 15 is given exactly when it is due: a call that is not refused sooner looks at all of every used block, and its cost is linear in
- * `used`.
+ * 15 is given exactly when it is due: an add, a power-up or a reading that is not refused sooner looks at all of every used
+ * block, and its cost is linear in `used`.
+ * A block has a summary of its samples' status bytes, by which zikhrodan_log_first passes it over. Blocks of an older library have
+ * none: they stay sound, and get one when a sample is added to them.
  * Answer: bits 0-7 the refusal, the rest a value. A refused call changes nothing, its value is 0, and `used` stays what it was: take
  * the value only after looking at the refusal. A `used` that is too low is not refused, and what is added then overwrites blocks. */
 
@@ -245,6 +247,13 @@ uint64_t zikhrodan_log_power_up(uint8_t *log, size_t log_len, uint64_t used);
 
 /* Where the sample at a position, from 0 on, starts in the log; it is 31 bytes. Refuses 15, 17, in that order. */
 uint64_t zikhrodan_log_sample(const uint8_t *log, size_t log_len, uint64_t used, uint64_t position);
+
+/* The first sample with a status bit, 0 to 23: bit `bit` % 8 of its byte `bit` / 8. The value is the sample's position plus 1, or 0
+ * for none. Refuses 15 for memory that isn't whole blocks, a `used` that is too large or a used block's count above 16, then 17 for
+ * a bit above 23. A block whose summary excludes the bit is passed over, by three of its bytes. On a sound log the answer is what
+ * reading every sample would give. A sound log is not asked for: on another the answer is fixed too, but a damaged summary can hide
+ * a sample. */
+uint64_t zikhrodan_log_first(const uint8_t *log, size_t log_len, uint64_t used, uint64_t bit);
 
 static inline enum zikhrodan_refusal zikhrodan_log_refusal(uint64_t answer)
 {

@@ -14,6 +14,6 @@ struct command {
     const struct command *const *parts;  /* or it has commands of its own, up to a null */
 };
 
-extern const struct command DEMO, RESET, SAMPLE, READ, WRITE, SHOW, WATCH, LOG;
+extern const struct command DEMO, RESET, SAMPLE, READ, WRITE, SHOW, WATCH, LOG, DIED, REPORT;
 
 #endif

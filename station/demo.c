@@ -2,15 +2,12 @@
 #include "ask.h"
 #include "command.h"
 #include "day.h"
+#include "demo_keep.h"
 #include "factory.h"
-#include "files.h"
 #include "words.h"
 
-#include <errno.h>
-#include <limits.h>
 #include <stdio.h>
 #include <string.h>
-#include <sys/stat.h>
 
 enum { OPERATOR_READS = 18 * 60 };
 
@@ -116,41 +113,6 @@ static int compare(const struct demo *demo)
     return DONE;
 }
 
-/* A file of the folder: made, or first looked for, which is an error: nothing that is there is replaced. */
-static int keep_file(const char *folder, const char *file, const uint8_t *bytes, size_t len, bool look)
-{
-    char name[PATH_MAX];
-
-    if (snprintf(name, sizeof name, "%s/%s", folder, file) >= (int)sizeof name)
-        return fail("%s: the name is too long", folder);
-    if (look)
-        return lstat(name, &(struct stat){0}) == 0 ? fail("%s is there already, and is not replaced", name) : DONE;
-    return replace(name, name, bytes, len, NULL);
-}
-
-/* Leaves the image, the day's rows, and a module that is reset to the image, to try the other commands on. */
-static int keep(const char *folder)
-{
-    static uint8_t rows[DAY_MINUTES][ZIKHRODAN_SAMPLE_LEN];
-    struct state state = {.len = ZIKHRODAN_STATE_LEN};
-    int status = DONE;
-
-    if (mkdir(folder, 0777) != 0 && errno != EEXIST)
-        return fail_errno(folder);
-    zikhrodan_reset(state.bytes, state.len, FACTORY_IMAGE, sizeof FACTORY_IMAGE);
-    for (unsigned minute = 0; minute < DAY_MINUTES; minute++)
-        day_sample(minute, rows[minute]);
-    for (int look = 1; look >= 0 && status == DONE; look--)
-        if ((status = keep_file(folder, "factory.image", FACTORY_IMAGE, sizeof FACTORY_IMAGE, look)) == DONE &&
-            (status = keep_file(folder, "day.rows", rows[0], sizeof rows, look)) == DONE)
-            status = keep_file(folder, "module.state", state.bytes, state.len, look);
-    if (status == DONE)
-        printf("\nKept in %s: factory.image, day.rows, and module.state, a module that is\n"
-               "reset and has been fed nothing yet.\n",
-               folder);
-    return status;
-}
-
 static int demo(int given, char **words)
 {
     const char *folder = NULL;
@@ -167,7 +129,7 @@ static int demo(int given, char **words)
     }
     read_flags(&demo, ZIKHRODAN_RECORDER, DAY_MINUTES);
     int status = compare(&demo);
-    return status == DONE && folder ? keep(folder) : status;
+    return status == DONE && folder ? demo_keep(folder) : status;
 }
 
 const struct command DEMO = {
@@ -177,10 +139,10 @@ const struct command DEMO = {
     .help = "Resets a module to the built-in factory image and plays a built-in day of\n"
             "samples in which a line goes dark for a while. The operator reads first, the\n"
             "recorder after; what each saw is shown side by side.\n\n"
-            "  --keep FOLDER    leaves the image, the day's rows and the module, freshly\n"
-            "                   reset, in FOLDER, to try the other commands on",
+            "  --keep FOLDER    leaves the image, the day's rows, the module, freshly reset,\n"
+            "                   and a log of the day in FOLDER, to try the other commands on",
     .examples = "    $ zikhrodan demo --keep another | tail -n 2\n"
-                "    Kept in another: factory.image, day.rows, and module.state, a module that is\n"
-                "    reset and has been fed nothing yet.\n",
+                "    Kept in another: factory.image, day.rows, module.state, a module that is reset\n"
+                "    and has been fed nothing yet, and day.log, a log that has the day's samples.\n",
     .run = demo,
 };

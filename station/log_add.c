@@ -26,16 +26,16 @@ const struct command LOG_ADD = {
             "the library refuses ends it, with the row's number; the rows before it stay. At\n"
             "the end of each file and, from a pipe, whenever it pauses, the rows are made to\n"
             "last: what is said to be taken no kill and no power cut takes away.",
-    .examples = "    $ zikhrodan log new trial/day.log 50\n"
-                "    trial/day.log has room for 50 blocks, of 16 samples each\n"
-                "    $ head -c $((31 * 700)) trial/day.rows | zikhrodan log add trial/day.log -\n"
+    .examples = "    $ zikhrodan log new trial/own.log 50\n"
+                "    trial/own.log has room for 50 blocks, of 16 samples each\n"
+                "    $ head -c $((31 * 700)) trial/day.rows | zikhrodan log add trial/own.log -\n"
                 "    700 rows taken\n"
-                "    trial/day.log: 44 of 50 blocks used\n"
-                "    $ zikhrodan log add trial/day.log trial/day.rows\n"
-                "    zikhrodan: trial/day.log: at row 101 of trial/day.rows: refused 14, "
+                "    trial/own.log: 44 of 50 blocks used\n"
+                "    $ zikhrodan log add trial/own.log trial/day.rows\n"
+                "    zikhrodan: trial/own.log: at row 101 of trial/day.rows: refused 14, "
                 "a new block is needed, and none is unused or the last one's number is 4294967295\n"
                 "    100 rows taken\n"
-                "    trial/day.log: 50 of 50 blocks used\n"
+                "    trial/own.log: 50 of 50 blocks used\n"
                 "    [exit status 1]\n",
     .run = log_add_command,
 };

@@ -29,9 +29,9 @@ static void row_line(const struct log_row *row)
             print_number(row->values[m]);
     }
     putchar(',');
-    for (unsigned flag = 0; flag < STATUS_FLAGS; flag++)
-        if (status_of(row->sample, flag)) {
-            printf("%s%s", between, status_name(flag, name));
+    for (unsigned place = 0; place < LINES; place++)
+        if (line_of(row->sample, line_shown(place))) {
+            printf("%s%s", between, line_name(line_shown(place), name, sizeof name));
             between = "; ";
         }
     fputs("\r\n", stdout);

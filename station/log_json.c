@@ -26,7 +26,7 @@ static void block_line(const struct log_view *view, uint64_t place)
     json_key(&json, "number");
     json_whole(&json, log_number(&view->log, place));
     json_key(&json, "count");
-    json_whole(&json, view->counts[place]);
+    json_whole(&json, view->counts.of[place]);
     json_end(&json);
 }
 
@@ -40,7 +40,7 @@ static void begin(struct log_view *view)
     json_key(&json, "used");
     json_whole(&json, view->log.used);
     json_key(&json, "count");
-    json_whole(&json, view->samples);
+    json_whole(&json, view->counts.samples);
     json_key(&json, "damaged_slot");
     json_bool(&json, view->log.damaged);
     units();
@@ -83,9 +83,9 @@ static void row_line(const struct log_row *row)
     json_words(&json, hex);
     json_key(&json, "status");
     json_begin(&json, '[');
-    for (unsigned flag = 0; flag < STATUS_FLAGS; flag++)
-        if (status_of(row->sample, flag))
-            json_words(&json, status_name(flag, name));
+    for (unsigned place = 0; place < LINES; place++)
+        if (line_of(row->sample, line_shown(place)))
+            json_words(&json, line_name(line_shown(place), name, sizeof name));
     json_end(&json);
     numbers(row);
     json_end(&json);

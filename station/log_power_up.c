@@ -34,10 +34,10 @@ const struct command LOG_POWER_UP = {
     .help = "Opens a new block, as a module that was powered up does: the samples that come\n"
             "are in a block of their own. The block before stays as it is, also if it has no\n"
             "sample.",
-    .examples = "    $ zikhrodan log new trial/day.log 50\n"
-                "    trial/day.log has room for 50 blocks, of 16 samples each\n"
-                "    $ zikhrodan log power-up trial/day.log\n"
+    .examples = "    $ zikhrodan log new trial/own.log 50\n"
+                "    trial/own.log has room for 50 blocks, of 16 samples each\n"
+                "    $ zikhrodan log power-up trial/own.log\n"
                 "    block 1 is opened\n"
-                "    trial/day.log: 1 of 50 blocks used\n",
+                "    trial/own.log: 1 of 50 blocks used\n",
     .run = log_power_up_command,
 };

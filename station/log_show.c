@@ -1,9 +1,8 @@
 /* log_show.c: zikhrodan log show: a look. Asks the library for all that is shown; one of the forms prints it, row by row. */
 #include "command.h"
-#include "factory.h"
 #include "log.h"
 #include "log_show.h"
-#include "state.h"
+#include "measure.h"
 #include "words.h"
 
 #include <inttypes.h>
@@ -15,22 +14,11 @@ struct wanted {
     bool json, csv;
 };
 
-/* How many samples each block has, and all of them. */
-static int count_samples(struct log_view *view)
-{
-    view->counts = malloc(view->log.used ? view->log.used : 1);
-    if (!view->counts)
-        return fail_errno(view->log.name);
-    for (uint64_t place = 0; place < view->log.used; place++)
-        view->samples += view->counts[place] = (uint8_t)log_count(&view->log, place);
-    return DONE;
-}
-
 /* Which samples are wanted: a position that there is not the library refuses. */
 static int choose(struct log_view *view, const struct wanted *wanted)
 {
     const struct logfile *log = &view->log;
-    uint64_t count = view->samples;
+    uint64_t samples = view->counts.samples, count = samples;
 
     if ((wanted->from && !number_in(wanted->from, "the position", &view->from)) ||
         (wanted->count && !number_in(wanted->count, "the count", &count)))
@@ -39,30 +27,12 @@ static int choose(struct log_view *view, const struct wanted *wanted)
         uint64_t answer = zikhrodan_log_sample(log->bytes, log->held.blocks * ZIKHRODAN_BLOCK_LEN, log->used, view->from);
         if (zikhrodan_log_refusal(answer) != ZIKHRODAN_ACCEPTED)
             return refused(zikhrodan_log_refusal(answer), "%s: position %" PRIu64, log->name, view->from);
-    } else if (count < view->samples) {
-        view->from = view->samples - count;
+    } else if (count < samples) {
+        view->from = samples - count;
     }
-    view->until = count < view->samples - view->from ? view->from + count : view->samples;
+    view->until = count < samples - view->from ? view->from + count : samples;
     view->all = !wanted->from && !wanted->count;
     return DONE;
-}
-
-/* What the numbers of a sample are in units: those of a module that has been fed it. */
-static void measure(struct log_row *row)
-{
-    static struct state module;
-    struct state copy;
-
-    if (module.len == 0) {
-        module.len = ZIKHRODAN_STATE_LEN;
-        zikhrodan_reset(module.bytes, module.len, FACTORY_IMAGE, sizeof FACTORY_IMAGE);
-    }
-    copy = module;
-    zikhrodan_sample(copy.bytes, copy.len, row->sample, ZIKHRODAN_SAMPLE_LEN);
-    for (unsigned m = 0; m < MONITORS; m++) {
-        row->kinds[m] = zikhrodan_kind_of(zikhrodan_monitor_kind(copy.bytes, copy.len, m));
-        row->values[m] = zikhrodan_monitor_value(copy.bytes, copy.len, m);
-    }
 }
 
 /* Prints the wanted samples; ends where nobody takes what is printed. */
@@ -71,14 +41,14 @@ static void print_rows(const struct log_view *view, const struct log_form *form)
     struct log_row row = {0};
     uint64_t first = 0; /* the position of a block's first sample */
 
-    for (uint64_t place = 0; place < view->log.used && first < view->until; first += view->counts[place++]) {
+    for (uint64_t place = 0; place < view->log.used && first < view->until; first += view->counts.of[place++]) {
         row.number = log_number(&view->log, place);
-        for (unsigned i = 0; i < view->counts[place] && !ferror(stdout); i++) {
+        for (unsigned i = 0; i < view->counts.of[place] && !ferror(stdout); i++) {
             row.position = first + i;
             if (row.position < view->from || row.position >= view->until)
                 continue;
             row.sample = log_sample(&view->log, place, i);
-            measure(&row);
+            measure(factory_module(), row.sample, row.kinds, row.values);
             form->row(&row);
         }
     }
@@ -97,7 +67,7 @@ static int log_show(int given, char **words)
         return fail("--json and --csv are two forms: one at a time");
     const struct log_form *form = wanted.json ? &LOG_JSON : wanted.csv ? &LOG_CSV : &LOG_TEXT;
     int status = log_look(&view.log, words[0]);
-    status = status ? status : count_samples(&view);
+    status = status ? status : counts_in(&view.counts, &view.log);
     status = status ? status : choose(&view, &wanted);
     if (status == DONE) {
         form->begin(&view);
@@ -105,7 +75,7 @@ static int log_show(int given, char **words)
         if (form->end)
             form->end();
     }
-    free(view.counts);
+    free(view.counts.of);
     log_close(&view.log);
     return status;
 }
@@ -125,12 +95,7 @@ const struct command LOG_SHOW = {
             "  --csv        for spreadsheets: a line of names, then a line for each sample\n\n"
             "--json and --csv go one at a time, and show all samples unless --from or\n"
             "--count is given.",
-    .examples = "    $ zikhrodan log new trial/day.log 100\n"
-                "    trial/day.log has room for 100 blocks, of 16 samples each\n"
-                "    $ zikhrodan log add trial/day.log trial/day.rows\n"
-                "    1440 rows taken\n"
-                "    trial/day.log: 90 of 100 blocks used\n"
-                "    $ zikhrodan log show trial/day.log | head -n 2\n"
+    .examples = "    $ zikhrodan log show trial/day.log | head -n 2\n"
                 "    trial/day.log: 1440 samples in 90 of 100 blocks\n"
                 "    the last 20 of them; --from 0 shows all, --from N --count N some\n"
                 "    $ zikhrodan log show trial/day.log --from 827 --count 1 | tail -n 1\n"

@@ -2,13 +2,13 @@
 #ifndef LOG_SHOW_H
 #define LOG_SHOW_H
 
+#include "counts.h"
+#include "lines.h"
 #include "logcalls.h"
-#include "names.h"
 
 struct log_view {
     struct logfile log;
-    uint8_t *counts;      /* how many samples each used block has */
-    uint64_t samples;     /* all of them */
+    struct counts counts; /* of its samples */
     uint64_t from, until; /* the positions shown; the second is the one after the last */
     bool all;             /* nobody has asked for fewer; where there are many, the form for people may show fewer still */
 };
@@ -27,18 +27,5 @@ struct log_form {
     void (*end)(void); /* may be null */
 };
 extern const struct log_form LOG_TEXT, LOG_JSON, LOG_CSV;
-
-/* The status flags of a sample, from byte 3 bit 7 on: whether one is 1. */
-enum { STATUS_FLAGS = 24 };
-static inline bool status_of(const uint8_t *sample, unsigned flag)
-{
-    return sample[flag / 8] >> (7 - flag % 8) & 1;
-}
-
-/* Its name. */
-static inline char *status_name(unsigned flag, char name[NAME_ROOM])
-{
-    return flag_name(FLAGS_AT + flag / 8, 7 - flag % 8, name, NAME_ROOM);
-}
 
 #endif

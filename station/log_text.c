@@ -17,12 +17,9 @@ static const int WIDTHS[QUANTITIES] = {12, 7, 7, 8, 7};
 
 static void begin(struct log_view *view)
 {
-    const struct logfile *log = &view->log;
-
-    printf("%s%s%s: %" PRIu64 " sample%s in %" PRIu64 " of %" PRIu64 " block%s\n", paint(STRONG), log->name, paint(PLAIN),
-           view->samples, plural(view->samples), log->used, log->held.blocks, plural(log->held.blocks));
-    if (view->all && view->samples > MANY) {
-        view->from = view->samples - LAST;
+    say_samples(&view->counts, &view->log);
+    if (view->all && view->counts.samples > MANY) {
+        view->from = view->counts.samples - LAST;
         printf("the last %d of them; --from 0 shows all, --from N --count N some\n", LAST);
     }
     if (view->from < view->until)
@@ -35,18 +32,19 @@ static void print_status(const uint8_t *sample)
     const char *between = "  ";
     char name[NAME_ROOM];
 
-    for (unsigned flag = 0; flag < STATUS_FLAGS; flag++) {
-        bool first = flag % 4 == 0, all = first;
-        for (unsigned i = 0; i < 4; i++)
-            all = all && status_of(sample, flag + i);
+    for (unsigned place = 0; place < LINES; place++) {
+        bool all = place % 4 == 0;
+        for (unsigned i = 0; i < 4 && all; i++)
+            all = line_of(sample, line_shown(place + i));
+        line_name(line_shown(place), name, sizeof name);
         if (all)
-            printf("%s%.2s1-4%s", between, status_name(flag, name), status_name(flag, name) + 3);
-        else if (status_of(sample, flag))
-            printf("%s%s", between, status_name(flag, name));
+            printf("%s%.2s1-4%s", between, name, name + 3);
+        else if (line_of(sample, line_shown(place)))
+            printf("%s%s", between, name);
         else
             continue;
         between = ", ";
-        flag += all ? 3 : 0;
+        place += all ? 3 : 0;
     }
 }
 

@@ -76,6 +76,11 @@ const uint8_t *log_sample(const struct logfile *log, uint64_t place, unsigned po
     return log->bytes + place * BLOCK + zikhrodan_log_value(asked(log, place, position));
 }
 
+uint64_t log_first(const struct logfile *log, uint64_t bit)
+{
+    return zikhrodan_log_first(log->bytes, log->held.blocks * BLOCK, log->used, bit);
+}
+
 void say_used(const struct logfile *log)
 {
     const struct slot *held = &log->held;

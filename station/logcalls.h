@@ -19,6 +19,9 @@ uint64_t log_number(const struct logfile *log, uint64_t place);
 unsigned log_count(const struct logfile *log, uint64_t place);
 const uint8_t *log_sample(const struct logfile *log, uint64_t place, unsigned position);
 
+/* The library's answer which sample is the first that has a status bit. */
+uint64_t log_first(const struct logfile *log, uint64_t bit);
+
 /* "day.log: 90 of 100 blocks used", of what the file has. */
 void say_used(const struct logfile *log);
 

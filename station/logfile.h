@@ -31,8 +31,12 @@ struct logfile {
     bool stale;       /* what is in memory may differ from what the file has */
 };
 
+/* Makes a file with room for so many blocks, none of them used, while signals wait; one that is there is not replaced. Gives 0,
+ * or an exit status with the error said, as the others do. */
+int log_make(const char *name, uint64_t blocks);
+
 /* Begins a change: locks, and loads what is not loaded or what another command has changed. A log that the library finds unsound
- * is refused. Before the first time: {.name = .., .fd = -1}. Gives 0, or an exit status with the error said, as the others do. */
+ * is refused. Before the first time: {.name = .., .fd = -1}. */
 int log_begin(struct logfile *log);
 
 /* Makes what the library has changed in memory last, while signals wait. Where it cannot, the log is as it was, or the error's

@@ -8,7 +8,8 @@
 #include <stdlib.h>
 #include <string.h>
 
-static const struct command *const COMMANDS[] = {&DEMO, &RESET, &SAMPLE, &READ, &WRITE, &SHOW, &WATCH, &LOG, NULL};
+static const struct command *const COMMANDS[] = {&DEMO, &RESET, &SAMPLE, &READ, &WRITE, &SHOW, &WATCH, &LOG, &DIED, &REPORT,
+                                                 NULL};
 
 static void list(const struct command *const *commands, int name, int usage)
 {

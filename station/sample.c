@@ -39,12 +39,12 @@ const struct command SAMPLE = {
                 "    operator: 3 flags let through, interrupt\n"
                 "    recorder: 3 flags let through, interrupt\n"
                 "    [exit status 1]\n"
-                "    $ zikhrodan log new trial/day.log 90\n"
-                "    trial/day.log has room for 90 blocks, of 16 samples each\n"
-                "    $ zikhrodan sample --log trial/day.log trial/module.state trial/day.rows\n"
+                "    $ zikhrodan log new trial/own.log 90\n"
+                "    trial/own.log has room for 90 blocks, of 16 samples each\n"
+                "    $ zikhrodan sample --log trial/own.log trial/module.state trial/day.rows\n"
                 "    1440 rows taken\n"
                 "    operator: 3 flags let through, interrupt\n"
                 "    recorder: 3 flags let through, interrupt\n"
-                "    trial/day.log: 90 of 90 blocks used\n",
+                "    trial/own.log: 90 of 90 blocks used\n",
     .run = sample,
 };

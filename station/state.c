@@ -3,6 +3,7 @@
 #include "factory.h"
 #include "files.h"
 #include "lock.h"
+#include "paths.h"
 #include "say.h"
 
 #include <errno.h>
@@ -45,42 +46,10 @@ static int lock_folder(const char *path, const char *name)
     }
 }
 
-/* A path with links resolved, of a file that need not be there; null with errno set. */
-static char *resolved(const char *name, enum if_missing missing)
-{
-    char *path = realpath(name, NULL), *folder, *whole = NULL;
-    if (path || errno != ENOENT || missing == IS_ERROR)
-        return path;
-
-    struct stat link;
-    const char *slash = strrchr(name, '/'), *last = slash ? slash + 1 : name;
-    if (*last == '\0' || lstat(name, &link) == 0) {
-        errno = ENOENT;
-        return NULL;
-    }
-    char *front = slash ? strndup(name, (size_t)(slash - name) + 1) : strdup(".");
-    folder = front ? realpath(front, NULL) : NULL;
-    free(front);
-    if (folder && (whole = malloc(strlen(folder) + strlen(last) + 2)))
-        strcat(strcat(strcpy(whole, folder), "/"), last);
-    free(folder);
-    return whole;
-}
-
-/* A regular file, so that a rename replaces no device or pipe; also one that is not there. */
-static int regular(const char *path, const char *name)
-{
-    struct stat is;
-
-    if (stat(path, &is) == 0 && !S_ISREG(is.st_mode))
-        return fail("%s: a state is a regular file", name);
-    return 0;
-}
-
 static int state_load(struct state *state, enum if_missing missing)
 {
     struct stat is;
-    int status = regular(state->path, state->name);
+    int status = regular(state->path, state->name, "a state");
 
     if (status == 0 && missing == IS_ZEROS && stat(state->path, &is) != 0 && errno == ENOENT) {
         memset(state->bytes, 0, sizeof state->bytes);
@@ -93,7 +62,7 @@ static int state_load(struct state *state, enum if_missing missing)
 int state_open(struct state *state, const char *name, enum if_missing missing)
 {
     state->name = name;
-    state->path = resolved(name, missing);
+    state->path = resolved(name, missing == IS_ZEROS);
     if (!state->path)
         return fail_errno(name);
     state->folder = lock_folder(state->path, name);
@@ -117,7 +86,7 @@ void state_close(struct state *state)
 
 int state_peek(struct state *state, const char *name)
 {
-    int status = regular(name, name);
+    int status = regular(name, name, "a state");
 
     return status ? status : load(name, name, state->bytes, sizeof state->bytes, &state->len);
 }

@@ -64,6 +64,16 @@ static int option_in(int given, char **words, int at, const struct option *optio
     return 0;
 }
 
+/* Every word that starts "--" stands for an option, and of those with one dash the ones that there are. */
+static bool is_option(const char *word, const struct option *options)
+{
+    bool found = strncmp(word, "--", 2) == 0;
+
+    for (const struct option *o = options; o->name && !found; o++)
+        found = strcmp(word, o->name) == 0;
+    return found;
+}
+
 bool words_in(int *given, char **words, const struct option *options, int least, int most)
 {
     int left = 0, at = 0;
@@ -72,7 +82,7 @@ bool words_in(int *given, char **words, const struct option *options, int least,
         if (strcmp(words[at], "--") == 0) {
             while (++at < *given)
                 words[left++] = words[at];
-        } else if (strncmp(words[at], "--", 2) == 0) {
+        } else if (is_option(words[at], options)) {
             int taken = option_in(*given, words, at, options);
             if (taken == 0)
                 return false;

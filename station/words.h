@@ -14,7 +14,7 @@ bool port_in(const char *word, uint64_t *port);
 /* The name of a port, 1 or 2. */
 const char *port_name(uint64_t port);
 
-/* A command's options, each a word that starts "--": taken out of the words, which then are `given` in number. */
+/* A command's options, each a word that starts "-": taken out of the words, which then are `given` in number. */
 struct option {
     const char *name;   /* such as "--raw" */
     const char **value; /* where the word after it goes; null for an option that has none */

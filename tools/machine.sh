@@ -1,6 +1,7 @@
 # machine.sh: what the scripts need of this machine. Sourced, not run; the script that does so has set -euo pipefail.
 #
-#   need COMMAND PACKAGE ..   where COMMAND is missing: Debian's PACKAGEs are installed, if this is root on a system with apt-get
+#   need COMMAND PACKAGE ..   where COMMAND, or a file of that path, is missing: Debian's PACKAGEs are installed, if this is root
+#                             on a system with apt-get
 #   compile WORDS ..          the C compiler for x86-64, which is what the library is compiled for
 #   compile_cpp WORDS ..      the C++ compiler for x86-64
 #   run PROGRAM WORDS ..      runs an x86-64 program: as it is, or on Arm under the toolchain's emulator
@@ -14,10 +15,14 @@ stop() {
     exit 2
 }
 
+has() {
+    command -v "$1" >/dev/null || [ -f "$1" ]
+}
+
 need() {
     local command=$1
     shift
-    command -v "$command" >/dev/null && return
+    has "$command" && return
     if [ "$(id -u)" -ne 0 ] || ! command -v apt-get >/dev/null; then
         stop "$command is missing: install Debian's $*, or what has it here"
     fi
@@ -27,7 +32,7 @@ need() {
         tail -n 5 <<<"$said" >&2
         stop "$* cannot be installed"
     fi
-    command -v "$command" >/dev/null || stop "$command is missing, with $* installed"
+    has "$command" || stop "$command is missing, with $* installed"
 }
 
 case $(uname -m) in

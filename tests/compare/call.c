@@ -57,6 +57,11 @@ struct call a_log_sample(uint64_t used, uint64_t position)
     return (struct call){ .kind = LOG_SAMPLE, .number = used, .which = position };
 }
 
+struct call a_log_first(uint64_t used, uint64_t bit)
+{
+    return (struct call){ .kind = LOG_FIRST, .number = used, .which = bit };
+}
+
 struct call a_put(uint64_t place, uint8_t byte)
 {
     return (struct call){ .kind = PUT, .number = place, .fill = byte };
@@ -69,7 +74,7 @@ bool call_is_double(enum kind kind)
 
 bool call_is_of_log(enum kind kind)
 {
-    return kind >= LOG_ADD && kind <= LOG_SAMPLE;
+    return kind >= LOG_ADD && kind <= LOG_FIRST;
 }
 
 static void *grown(void *at, size_t *room, size_t wanted, size_t size)

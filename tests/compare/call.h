@@ -5,7 +5,9 @@
 #include "memory.h"
 
 /* The module's calls, the log's from LOG_ADD on, and PUT, which is none: the owner of the state or the log changes a byte. */
-enum kind { RESET, SAMPLE, READ, WRITE, IDENTITY, KIND, VALUE, LIMITS, LIMIT, LOG_ADD, LOG_POWER_UP, LOG_SAMPLE, PUT, KINDS };
+enum kind {
+    RESET, SAMPLE, READ, WRITE, IDENTITY, KIND, VALUE, LIMITS, LIMIT, LOG_ADD, LOG_POWER_UP, LOG_SAMPLE, LOG_FIRST, PUT, KINDS
+};
 
 /* Bytes to lend. A null `at`: no bytes, at a null pointer. Vast ones, more than REGION, are zeros and `at` is anything. */
 struct bytes {
@@ -17,7 +19,7 @@ struct call {
     enum kind kind;
     uint64_t port, address, count;  /* of a read or a write, which has no count but its data's length */
     uint64_t number, which;         /* the field, the monitor, the quantity or the used number; which of its limits; */
-                                    /* the position in a log; of PUT the place */
+                                    /* the position in a log, or the status bit; of PUT the place */
     struct bytes first, second;     /* the image, the sample, the data or the live page; the factory page */
     size_t out_len;                 /* the output memory, */
     bool out_null;                  /* if it is none at a null pointer, */
@@ -36,6 +38,7 @@ struct call a_limit(uint64_t quantity, uint64_t which);
 struct call a_log_add(uint64_t used, struct bytes sample);
 struct call a_log_power_up(uint64_t used);
 struct call a_log_sample(uint64_t used, uint64_t position);
+struct call a_log_first(uint64_t used, uint64_t bit);
 struct call a_put(uint64_t place, uint8_t byte);
 
 /* The answer is a double, given as its bits. */

@@ -43,6 +43,7 @@ static uint64_t library_answer(const struct call *c, const struct lent *l)
     case LOG_ADD: return zikhrodan_log_add(l->state, l->state_len, c->number, l->first, c->first.len);
     case LOG_POWER_UP: return zikhrodan_log_power_up(l->state, l->state_len, c->number);
     case LOG_SAMPLE: return zikhrodan_log_sample(l->state, l->state_len, c->number, c->which);
+    case LOG_FIRST: return zikhrodan_log_first(l->state, l->state_len, c->number, c->which);
     default: return put(c, l);
     }
 }
@@ -62,6 +63,7 @@ static uint64_t plain_answer(const struct call *c, const struct lent *l, struct 
     case LOG_ADD: return plain_log_add(l->state, l->state_len, c->number, l->first, c->first.len);
     case LOG_POWER_UP: return plain_log_power_up(l->state, l->state_len, c->number);
     case LOG_SAMPLE: return plain_log_sample(l->state, l->state_len, c->number, c->which);
+    case LOG_FIRST: return plain_log_first(l->state, l->state_len, c->number, c->which);
     default: return put(c, l);
     }
 }

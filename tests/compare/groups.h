@@ -24,7 +24,10 @@ void group_log_refusals(void);  /* every set of refusals at once */
 void group_log_blocks(void);    /* logs that grow, counts, numbers, sums */
 void group_log_lengths(void);   /* lengths, used numbers and positions, at their ends too */
 void group_log_damage(void);    /* every byte changed */
+void group_log_summaries(void); /* endings of a block, and the summaries that are written */
+void group_log_first(void);     /* the question: every bit at every position, and logs that aren't sound */
 void group_log_histories(void); /* random calls */
 void group_log_far(void);       /* a log of more than 2^24 bytes */
+void group_log_first_far(void); /* one of more than 2^24 samples */
 
 #endif

@@ -7,36 +7,28 @@
 
 #include <string.h>
 
-/* Every sample by its position, and the first three positions past them. */
-static void read_all(uint64_t used)
-{
-    unsigned samples = samples_in(both_state(), (unsigned)used);
-    for (uint64_t position = 0; position < samples + 3; position++)
-        try(a_log_sample(used, position));
-}
-
 /* From nothing until a sample finds no room, a power-up before each so many samples, two at a time by turns; then what is full is
- * tried once more, and every sample is read. */
+ * tried once more. On the way and at the end every sample is read, and every status bit asked for. */
 static void grow(unsigned blocks, unsigned between)
 {
     uint64_t used = 0, answer;
     begin_log(log_memory(), blocks * BLOCK_LEN);
-    read_all(0);
+    read_and_ask(0);
     for (unsigned i = 0;; i++) {
         for (unsigned n = 0; between && i % between == 0 && n <= i / between % 2; n++) {
             answer = try(a_log_power_up(used));
             used = answer & 0xff ? used : answer >> 8;
         }
-        answer = try(a_log_add(used, log_sample()));
+        answer = try(a_log_add(used, i % 2 ? log_sample() : quiet_sample()));
         if (answer & 0xff)
             break;
         used = answer >> 8;
         if (i % 7 == 0)
-            read_all(used);
+            read_and_ask(used);
     }
     try(a_log_power_up(used));
     try(a_log_add(used, log_sample()));
-    read_all(used);
+    read_and_ask(used);
 }
 
 /* Every count with samples in all of the room and with none, in a block alone, in the first of two and in the second. */
@@ -48,7 +40,7 @@ static void counts(void)
                 uint8_t *log = log_memory();
                 make_log(log, 2, 1, 5);
                 make_block(log + BLOCK_LEN * block, 1 + block, samples * BLOCK_SAMPLES);
-                log[BLOCK_LEN * block + 4] = (uint8_t)count;
+                log[BLOCK_LEN * block + COUNT_AT] = (uint8_t)count;
                 set_sum(log + BLOCK_LEN * block);
                 for (uint64_t used = block + 1; used <= 2; used++)
                     each_log_call(log, 3 * BLOCK_LEN, used, random_below(40));
@@ -86,14 +78,14 @@ static void sums(void)
         begin_log(log_memory(), BLOCK_LEN);
         for (unsigned i = 0; i <= BLOCK_SAMPLES; i++)
             try_expecting(a_log_add(i > 0, (struct bytes){ sample, sizeof sample }), i < BLOCK_SAMPLES ? 0 : 14);
-        read_all(1);
+        read_and_ask(1);
     }
 }
 
 /* The block that the paper spells out. */
 static void block_1(void)
 {
-    uint8_t paper[BLOCK_LEN] = { [3] = 1, [511] = 1 };
+    uint8_t paper[BLOCK_LEN] = { [3] = 1, [504] = 1, [511] = 2 };
     begin_log(log_memory(), BLOCK_LEN);
     try_expecting(a_log_power_up(0), 0);
     if (memcmp(both_state(), paper, BLOCK_LEN))

@@ -1,12 +1,12 @@
 /* log_cases.c: logs to begin with. */
 #include "log_cases.h"
 
+#include "both.h"
 #include "check.h"
 #include "random.h"
 
+#include <inttypes.h>
 #include <string.h>
-
-enum { COUNT_AT = 4, ROOM_AT = 5, ENDING_AT = 501, SUM_AT = 510 };
 
 const uint32_t end_numbers[END_NUMBERS] = {
     0, 1, 2, 255, 256, 65535, 65536, 16777215, 16777216, 2147483648, LAST_NUMBER - 1, LAST_NUMBER,
@@ -39,11 +39,6 @@ void set_block_number(uint8_t *block, uint32_t number)
     put_number(block + 2, number);
 }
 
-static uint32_t block_number(const uint8_t *block)
-{
-    return (uint32_t)number_at(block) << 16 | number_at(block + 2);
-}
-
 static void fill_by_turns(uint8_t *at, size_t len)
 {
     static unsigned turn;
@@ -52,20 +47,62 @@ static void fill_by_turns(uint8_t *at, size_t len)
         memset(at, turn % 3 == 1 ? 0xff : 0, len);
 }
 
+static uint8_t drawn[2 * SAMPLE_LEN];
+
 struct bytes log_sample(void)
 {
-    static uint8_t sample[2 * SAMPLE_LEN];
-    fill_by_turns(sample, sizeof sample);
-    return (struct bytes){ sample, SAMPLE_LEN };
+    fill_by_turns(drawn, sizeof drawn);
+    return (struct bytes){ drawn, SAMPLE_LEN };
+}
+
+struct bytes quiet_sample(void)
+{
+    struct bytes sample = log_sample();
+    set_status(drawn, chance(80) ? 0 : 1u << random_below(STATUS_BITS) | 1u << random_below(STATUS_BITS));
+    return sample;
+}
+
+uint8_t *sample_in(uint8_t *block, unsigned sample)
+{
+    return block + ROOM_AT + SAMPLE_LEN * sample;
+}
+
+uint32_t status_of(const uint8_t *three_bytes)
+{
+    return three_bytes[0] | (uint32_t)three_bytes[1] << 8 | (uint32_t)three_bytes[2] << 16;
+}
+
+void set_status(uint8_t *three_bytes, uint32_t status)
+{
+    for (unsigned i = 0; i < 3; i++)
+        three_bytes[i] = (uint8_t)(status >> 8 * i);
+}
+
+uint32_t status_of_all(const uint8_t *block)
+{
+    uint32_t status = 0;
+    for (unsigned i = 0; i < block[COUNT_AT] && i < BLOCK_SAMPLES; i++)
+        status |= status_of(block + ROOM_AT + SAMPLE_LEN * i);
+    return status;
+}
+
+void set_summary(uint8_t *block, bool summary)
+{
+    set_status(block + SUMMARY_AT, summary ? status_of_all(block) : 0);
+    block[MARK_AT] = summary;
+    set_sum(block);
 }
 
 void make_block(uint8_t *block, uint32_t number, unsigned count)
 {
+    uint32_t kept = (uint32_t)(chance(50) ? random_number() & random_number() : UINT32_MAX);
     memset(block, 0, BLOCK_LEN);
     set_block_number(block, number);
     block[COUNT_AT] = (uint8_t)count;
     random_fill(block + ROOM_AT, count * SAMPLE_LEN);
-    set_sum(block);
+    for (unsigned i = 0; i < count; i++)
+        set_status(sample_in(block, i), status_of(sample_in(block, i)) & kept);
+    set_summary(block, chance(50));
 }
 
 void make_log(uint8_t *log, unsigned used, uint32_t first, unsigned count)
@@ -79,43 +116,6 @@ uint8_t *log_memory(void)
     static uint8_t log[REGION];
     fill_by_turns(log, (MOST_BLOCKS + 1) * BLOCK_LEN);
     return log;
-}
-
-/* Where the ways about the number, of a block after another, and about the ending begin; the others come before them. */
-enum { NUMBER_WAYS = 7, ENDING_WAYS = 14 };
-
-static void spoil_number(uint8_t *block, unsigned way)
-{
-    uint32_t right = block_number(block);
-    const uint32_t wrong[ENDING_WAYS - NUMBER_WAYS] = {
-        right - 1, right + 1, right - 2, right ^ 1u << 31, right ^ 1u << 16, right ^ 1u << 8, ~right,
-    };
-    set_block_number(block, wrong[way - NUMBER_WAYS]);
-}
-
-bool spoil(uint8_t *log, unsigned block, unsigned way)
-{
-    uint8_t *at = log + BLOCK_LEN * block;
-    unsigned count = at[COUNT_AT];
-    bool about_room = way == 2 || way == 3, about_number = way >= NUMBER_WAYS && way < ENDING_WAYS;
-    if ((about_room && count == BLOCK_SAMPLES) || (way == 4 && !count) || (about_number && !block))
-        return false;
-    if (about_room) {
-        at[way == 2 ? ROOM_AT + SAMPLE_LEN * count : ENDING_AT - 1u] = 1;
-    } else if (way == 4) {
-        at[COUNT_AT]--;
-        at[ROOM_AT + SAMPLE_LEN * count - 1] |= 1;
-    } else if (about_number) {
-        spoil_number(at, way);
-    } else if (way >= ENDING_WAYS) {
-        at[ENDING_AT + way - ENDING_WAYS] = (uint8_t)(1 + random_below(255));
-    } else if (way < 2) {
-        at[COUNT_AT] = way ? 255 : BLOCK_SAMPLES + 1;
-    }
-    set_sum(at);
-    if (way == 5 || way == 6)
-        at[SUM_AT + way - 5] ^= (uint8_t)(1 << random_below(8));
-    return true;
 }
 
 unsigned samples_in(const uint8_t *log, unsigned used)
@@ -134,9 +134,35 @@ void begin_log(const uint8_t *log, size_t len)
 
 void each_log_call(const uint8_t *log, size_t len, uint64_t used, uint64_t position)
 {
+    static unsigned turn;
     begin_log(log, len);
     try(a_log_sample(used, position));
+    try(a_log_first(used, turn++ % (STATUS_BITS + 1)));
     try(a_log_add(used, log_sample()));
     begin_log(log, len);
     try(a_log_power_up(used));
+}
+
+void ask_expecting(uint64_t used, uint64_t bit, uint64_t value)
+{
+    uint64_t answer = try(a_log_first(used, bit));
+    if (answer != value << 8)
+        mismatch("both answer refusal %" PRIu64 ", value %" PRIu64 ", the papers have value %" PRIu64, answer & 0xff, answer >> 8,
+                 value);
+}
+
+void read_and_ask(uint64_t used)
+{
+    uint64_t first[STATUS_BITS] = { 0 };
+    unsigned samples = samples_in(both_state(), (unsigned)used);
+    for (uint64_t position = 0; position < samples + 3; position++) {
+        uint64_t answer = try(a_log_sample(used, position));
+        uint32_t status = answer & 0xff ? 0 : status_of(both_state() + (answer >> 8));
+        for (unsigned bit = 0; bit < STATUS_BITS; bit++)
+            if (status >> bit & 1 && !first[bit])
+                first[bit] = position + 1;
+    }
+    for (unsigned bit = 0; bit < STATUS_BITS; bit++)
+        ask_expecting(used, bit, first[bit]);
+    try_expecting(a_log_first(used, STATUS_BITS), 17);
 }

@@ -6,11 +6,12 @@
 
 #include <string.h>
 
-/* The calls, one by turns. */
+/* The question, and of the other calls one by turns. */
 static void a_call(const uint8_t *log, size_t len, uint64_t used)
 {
     static unsigned turn;
     begin_log(log, len);
+    try(a_log_first(used, turn % STATUS_BITS));
     switch (turn++ % 3) {
     case 0:
         try(a_log_sample(used, turn / 3 % 20));
@@ -35,12 +36,13 @@ static void change(uint8_t *log, size_t len, uint64_t used, size_t place, uint8_
     memcpy(block, kept, BLOCK_LEN);
 }
 
-/* Every value of every byte of a log of one block. */
-static void one_block(unsigned count)
+/* Every value of every byte, from this one on, of a log of one block. */
+static void one_block(unsigned count, bool summary, size_t place)
 {
     uint8_t *log = log_memory();
     make_log(log, 1, 0x01020304, count);
-    for (size_t place = 0; place < BLOCK_LEN; place++)
+    set_summary(log, summary);
+    for (; place < BLOCK_LEN; place++)
         for (unsigned value = 0; value <= 255; value++)
             change(log, 2 * BLOCK_LEN, 1, place, (uint8_t)value);
 }
@@ -64,7 +66,7 @@ static void every_sum(void)
     uint8_t *log = log_memory();
     make_log(log, 1, 1, 16);
     for (unsigned sum = 0; sum <= 65535; sum++) {
-        put_number(log + 510, sum);
+        put_number(log + SUM_AT, sum);
         begin_log(log, BLOCK_LEN);
         try(a_log_sample(1, sum % 17));
     }
@@ -77,7 +79,9 @@ void group_log_damage(void)
     three_blocks(1, 9);
     three_blocks(LAST_NUMBER - 2, 16);
     three_blocks(65534, 0);
-    one_block(0);
-    one_block(7);
-    one_block(16);
+    one_block(0, true, 0);
+    one_block(7, true, 0);
+    one_block(16, true, 0);
+    for (unsigned count = 0; count <= BLOCK_SAMPLES; count++)
+        one_block(count, false, SUMMARY_AT);
 }

@@ -1,5 +1,5 @@
-/* log_histories.c: random histories of a log: samples, power-ups, readings, and bytes that change and are as they were again. The
- * group also fails if its calls leave out an outcome. */
+/* log_histories.c: random histories of a log: samples, power-ups, readings, questions, and bytes that change and are as they were
+ * again. The group also fails if its calls leave out an outcome. */
 #include "both.h"
 #include "check.h"
 #include "groups.h"
@@ -21,6 +21,7 @@ static uint64_t used;
 static bool damaged;
 static size_t place;
 static uint8_t byte;
+static bool quiet;  /* few of its samples have a status bit */
 
 /* Makes a call. If the log goes on from there, it has the used number that an accepted add or power-up hands back. */
 static void make(struct call call, bool goes_on)
@@ -32,7 +33,7 @@ static void make(struct call call, bool goes_on)
         refused[call.kind]++;
     else
         accepted[call.kind]++;
-    if (goes_on && !(answer & 0xff) && call.kind != LOG_SAMPLE)
+    if (goes_on && !(answer & 0xff) && call.kind < LOG_SAMPLE)
         used = answer >> 8;
 }
 
@@ -46,6 +47,7 @@ static void beginning(void)
     make_log(log, (unsigned)used, first, random_below(BLOCK_SAMPLES + 1));
     len = blocks * BLOCK_LEN + (chance(97) ? 0 : random_below(BLOCK_LEN));
     damaged = false;
+    quiet = chance(70);
     place_at(chance(60) ? AT_END : chance(50) ? AT_START : AT_ODD);
     begin_log(log, len);
 }
@@ -62,6 +64,9 @@ static void damage_or_heal(void)
         return;
     if (!damaged) {
         place = random_below((unsigned)len);
+        if (chance(40) && len >= BLOCK_LEN) /* a block's count, its summary or what comes after */
+            place = place % (len / BLOCK_LEN) * BLOCK_LEN +
+                    (chance(20) ? COUNT_AT : SUMMARY_AT + random_below(BLOCK_LEN - SUMMARY_AT));
         byte = both_state()[place];
     }
     try(a_put(place, damaged ? byte : (uint8_t)(byte ^ 1 << random_below(8))));
@@ -74,23 +79,33 @@ static void read_all(void)
         make(a_log_sample(used, position), true);
 }
 
+static void ask_all(void)
+{
+    for (uint64_t bit = 0; bit <= STATUS_BITS; bit++)
+        make(a_log_first(used, bit), true);
+}
+
 static void step(void)
 {
     unsigned roll = damaged && chance(40) ? 99 : random_below(100);
-    struct bytes sample = log_sample();
-    if (roll < 70) {
+    struct bytes sample = quiet ? quiet_sample() : log_sample();
+    if (roll < 66) {
         if (chance(4))
             sample.len = random_below(2 * SAMPLE_LEN + 1);
         make(a_log_add(used, sample), true);
-    } else if (roll < 74) {
+    } else if (roll < 70) {
         make(a_log_power_up(used), true);
-    } else if (roll < 90) {
+    } else if (roll < 80) {
         make(a_log_sample(used, random_below(BLOCK_SAMPLES * (unsigned)used + 2)), true);
+    } else if (roll < 90) {
+        make(a_log_first(used, random_below(STATUS_BITS + 1)), true);
     } else if (roll < 92) {
         read_all();
+        ask_all();
     } else if (roll < 96) {
         uint64_t wrong = other_used();
-        make(chance(50) ? a_log_add(wrong, sample) : chance(50) ? a_log_power_up(wrong) : a_log_sample(wrong, 0), wrong < used);
+        make(chance(50) ? a_log_add(wrong, sample) : chance(40) ? a_log_power_up(wrong) : chance(50) ? a_log_sample(wrong, 0) :
+             a_log_first(wrong, random_below(STATUS_BITS)), wrong < used);
     } else {
         damage_or_heal();
     }
@@ -108,7 +123,7 @@ static void report(uint64_t histories)
     static const uint8_t numbers[] = { 8, 14, 15, 17 };
     char line[400];
     int end = snprintf(line, sizeof line, " in %" PRIu64 " histories; accepted and refused:", histories);
-    for (int kind = LOG_ADD; kind <= LOG_SAMPLE; kind++) {
+    for (int kind = LOG_ADD; kind <= LOG_FIRST; kind++) {
         if (!accepted[kind] || !refused[kind])
             fail("%s was never %s", text_word((enum kind)kind), accepted[kind] ? "refused" : "accepted");
         end += snprintf(line + end, sizeof line - (size_t)end, " %s %" PRIu64 " %" PRIu64 ",", text_word((enum kind)kind),

@@ -1,5 +1,5 @@
-/* log_lengths.c: every length of a log and of a sample from 0 on, and vast ones; used numbers and positions at the ends of what 3
- * to 64 bits hold. */
+/* log_lengths.c: every length of a log and of a sample from 0 on, and vast ones; used numbers, positions and status bits at the
+ * ends of what 3 to 64 bits hold. */
 #include "check.h"
 #include "groups.h"
 #include "log_cases.h"
@@ -33,7 +33,7 @@ static void large_logs(void)
     }
 }
 
-/* Each used number and each position at an end, and somewhat more, on logs of 0 to 3 blocks. */
+/* Each used number, position and status bit at an end, and somewhat more, on logs of 0 to 3 blocks. */
 static void numbers_at_ends(void)
 {
     for (unsigned blocks = 0; blocks <= 3; blocks++) {
@@ -43,8 +43,10 @@ static void numbers_at_ends(void)
             each_log_call(log, blocks * BLOCK_LEN, ends[i], 0);
             each_log_call(log, blocks * BLOCK_LEN, ends[i] + blocks, 0);
             begin_log(log, blocks * BLOCK_LEN);
-            for (uint64_t more = 0; more <= 48; more += 16)
+            for (uint64_t more = 0; more <= 48; more += 16) {
                 try(a_log_sample(blocks, ends[i] + more));
+                try(a_log_first(blocks, ends[i] + more));
+            }
         }
     }
 }
@@ -80,10 +82,13 @@ static void vast_logs(void)
                 try(a_put(i * BLOCK_LEN + 511, (uint8_t)i));
             }
             try(a_log_sample(used, 0));
+            try(a_log_first(used, 0));
             try(a_log_power_up(used));
             try(a_log_add(used + 1, log_sample()));
             try(a_log_sample(used + 1, 0));
             try(a_log_sample(used + 1, 1));
+            try(a_log_first(used + 1, 23));
+            try(a_log_first((VAST + more) / BLOCK_LEN + 1, 0));
             try(a_log_power_up((VAST + more) / BLOCK_LEN));
             try(a_log_power_up((VAST + more) / BLOCK_LEN + 1));
         }

@@ -66,6 +66,23 @@ static void sample_sets(const struct shape *s)
         try_set(a_log_sample(s->used, positions[i]), set_of_memory(s) | (positions[i] < samples ? 0 : R(17)));
 }
 
+/* The question asks for countable blocks, not for sound ones. */
+static void first_sets(const struct shape *s)
+{
+    static const uint64_t above[] = {
+        25, 31, 32, 63, 64, 255, 256, (uint64_t)1 << 32, ((uint64_t)1 << 32) + 23, (uint64_t)1 << 63,
+    };
+    static unsigned turn;
+    const uint64_t bits[] = { turn % STATUS_BITS, STATUS_BITS - 1, STATUS_BITS, above[turn % COUNT(above)], UINT64_MAX };
+    bool refused = s->beside || s->used > s->blocks;
+    for (unsigned i = 0; i < there(s); i++)
+        refused = refused || memory[BLOCK_LEN * i + COUNT_AT] > BLOCK_SAMPLES;
+    begin_shape(s);
+    for (size_t i = 0; i < COUNT(bits); i++)
+        try_set(a_log_first(s->used, bits[i]), (refused ? R(15) : 0) | (bits[i] < STATUS_BITS ? 0 : R(17)));
+    turn++;
+}
+
 /* A shape as it is, and with each of its blocks spoilt in each way. */
 static void each_way(struct shape s, void (*sets)(const struct shape *))
 {
@@ -105,6 +122,8 @@ void group_log_refusals(void)
     each_shape(power_up_sets);
     end_of_sets(R(14) | R(15), NULL);
     each_shape(sample_sets);
+    end_of_sets(R(15) | R(17), NULL);
+    each_shape(first_sets);
     end_of_sets(R(15) | R(17), NULL);
     say_sets();
 }

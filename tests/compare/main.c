@@ -21,12 +21,14 @@ static const struct group {
     void (*run)(void);
 } groups[] = {
     { "refusals", group_refusals }, { "log-blocks", group_log_blocks }, { "log-refusals", group_log_refusals },
-    { "log-histories", group_log_histories }, { "log-lengths", group_log_lengths },
+    { "log-summaries", group_log_summaries }, { "log-first", group_log_first }, { "log-histories", group_log_histories },
+    { "log-lengths", group_log_lengths },
     { "histories", group_histories }, { "lengths", group_lengths }, { "vast", group_vast },
     { "ends", group_ends }, { "identity", group_identity }, { "reset", group_reset }, { "select", group_select },
     { "sample", group_sample }, { "write", group_write }, { "limits", group_limits }, { "records", group_records },
     { "monitors", group_monitors }, { "read", group_read }, { "starts", group_starts }, { "odd", group_odd },
-    { "log-damage", group_log_damage }, { "log-far", group_log_far }, { "demand-3", group_demand_3 },
+    { "log-damage", group_log_damage }, { "log-far", group_log_far }, { "log-first-far", group_log_first_far },
+    { "demand-3", group_demand_3 },
 };
 enum { GROUPS = sizeof groups / sizeof groups[0] };
 
@@ -40,6 +42,7 @@ static void elsewhere(enum place place)
     group_select();
     group_log_refusals();
     group_log_blocks();
+    group_log_first();
     group_log_lengths();
     place_at(AT_END);
 }

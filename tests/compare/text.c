@@ -10,7 +10,7 @@
 static const char *const places[PLACES] = { "end", "start", "odd" };
 static const char *const words[KINDS] = {
     "reset", "sample", "read", "write", "identity", "kind", "value", "limits", "limit", "log-add", "log-power-up", "log-sample",
-    "put",
+    "log-first", "put",
 };
 
 const char *text_word(enum kind kind)
@@ -58,6 +58,7 @@ static void print_call(const struct call *call, FILE *to)
         break;
     case LIMIT:
     case LOG_SAMPLE:
+    case LOG_FIRST:
         fprintf(to, " %" PRIx64 " %" PRIx64, call->number, call->which);
         break;
     case LOG_ADD:
@@ -151,6 +152,7 @@ static bool parse_call(char **word, struct call *call)
                parse_number(word[3], UINT64_MAX, &call->number) && !word[4];
     case LIMIT:
     case LOG_SAMPLE:
+    case LOG_FIRST:
         return parse_number(word[1], UINT64_MAX, &call->number) && parse_number(word[2], UINT64_MAX, &call->which) && !word[3];
     case LOG_ADD:
         return parse_number(word[1], UINT64_MAX, &call->number) && parse_bytes(word[2], first, &call->first) && !word[3];

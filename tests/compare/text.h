@@ -13,6 +13,7 @@
  *   log-add USED SAMPLE
  *   log-power-up USED
  *   log-sample USED POSITION
+ *   log-first USED BIT
  *   put PLACE BYTE                      no call: a byte of the state or of the log becomes BYTE
  *   # words
  *

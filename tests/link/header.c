@@ -100,17 +100,21 @@ static void names(void)
     check("3", zikhrodan_sample(state, sizeof state, sample, ZIKHRODAN_SAMPLE_LEN) == ZIKHRODAN_UNSOUND_RECORD);
 }
 
-/* The log's names likewise: two blocks of memory, filled. */
+/* The log's names likewise: two blocks of memory, filled. The last sample has bit 18, which no other has. */
 static void names_of_log(void)
 {
-    static const uint8_t none[ZIKHRODAN_BLOCK_LEN] = {0, 0, 0, 1};
-    uint8_t log[2 * ZIKHRODAN_BLOCK_LEN] = {0}, sample[ZIKHRODAN_SAMPLE_LEN + 1] = {1, 2, 3};
+    uint8_t none[ZIKHRODAN_BLOCK_LEN] = {0, 0, 0, 1}, sample[ZIKHRODAN_SAMPLE_LEN + 1] = {1, 2, 3};
+    uint8_t log[2 * ZIKHRODAN_BLOCK_LEN] = {0};
     uint64_t used = 0, start;
 
+    none[504] = 1;
+    none[511] = 2;
     used = zikhrodan_log_value(zikhrodan_log_power_up(log, sizeof log, used));
-    check("power-up", used == 1 && memcmp(log, none, sizeof none - 1) == 0 && log[ZIKHRODAN_BLOCK_LEN - 1] == 1);
-    for (unsigned n = 0; n <= ZIKHRODAN_BLOCK_SAMPLES; n++)
+    check("power-up", used == 1 && memcmp(log, none, sizeof none) == 0);
+    for (unsigned n = 0; n <= ZIKHRODAN_BLOCK_SAMPLES; n++) {
+        sample[2] = n == ZIKHRODAN_BLOCK_SAMPLES ? 7 : 3;
         used = zikhrodan_log_value(zikhrodan_log_add(log, sizeof log, used, sample, ZIKHRODAN_SAMPLE_LEN));
+    }
     check("add", used == 2 && log[4] == ZIKHRODAN_BLOCK_SAMPLES && log[ZIKHRODAN_BLOCK_LEN + 4] == 1);
     start = zikhrodan_log_value(zikhrodan_log_sample(log, sizeof log, used, ZIKHRODAN_BLOCK_SAMPLES));
     check("a position", start == ZIKHRODAN_BLOCK_LEN + 5 && memcmp(log + start, sample, ZIKHRODAN_SAMPLE_LEN) == 0);
@@ -119,6 +123,12 @@ static void names_of_log(void)
     check("8, of the log", zikhrodan_log_add(log, sizeof log, used, sample, sizeof sample) == ZIKHRODAN_SAMPLE_SIZE);
     check("15", zikhrodan_log_add(log, sizeof log - 1, used, sample, ZIKHRODAN_SAMPLE_LEN) == ZIKHRODAN_UNSOUND_LOG);
     check("no log", zikhrodan_log_sample(NULL, 0, 0, 0) == ZIKHRODAN_NO_SUCH_SAMPLE);
+    check("first", zikhrodan_log_value(zikhrodan_log_first(log, sizeof log, used, 0)) == 1);
+    check("first of all in the last", zikhrodan_log_first(log, sizeof log, used, 18) >> 8 == ZIKHRODAN_BLOCK_SAMPLES + 1);
+    check("none", zikhrodan_log_first(log, sizeof log, used, 23) == ZIKHRODAN_ACCEPTED);
+    check("17, of a bit", zikhrodan_log_first(log, sizeof log, used, 24) == ZIKHRODAN_NO_SUCH_SAMPLE);
+    check("15, of the question", zikhrodan_log_first(log, sizeof log, used + 1, 24) == ZIKHRODAN_UNSOUND_LOG);
+    check("none in no log", zikhrodan_log_first(NULL, 0, 0, 0) == ZIKHRODAN_ACCEPTED);
 }
 
 int main(void)

@@ -1,4 +1,4 @@
-/* log.c: the three calls on a log, each on the list of its blocks. See log.h. */
+/* log.c: the calls on a log but the question, each on the list of its blocks. See log.h. */
 #include "log.h"
 #include "blocks.h"
 
@@ -8,6 +8,7 @@
 
 struct block {
     uint32_t number;
+    bool summary;
     unsigned count;
     uint8_t samples[BLOCK_SAMPLES * SAMPLE_LEN];
 };
@@ -57,6 +58,7 @@ static bool take_apart(const uint8_t *log, size_t log_len, uint64_t used)
             return false;
         struct block *b = one_more();
         b->number = block_number(bytes);
+        b->summary = block_mark(bytes) == MARK;
         b->count = block_count(bytes);
         memcpy(b->samples, bytes + sample_start(0), sizeof b->samples);
         if (i == 0 ? BROKEN(85) && b->number != 1 : !follows(b->number, b[-1].number))
@@ -70,11 +72,17 @@ static uint64_t refusal_of_unsound(size_t log_len, uint64_t used)
     return BROKEN(87) && used >= log_len / BLOCK_LEN ? 14 : 15;
 }
 
-/* Writes all blocks of the list; the answer of an accepted call that may have made it longer. */
+/* Writes all blocks of the list; the answer of an accepted call that may have made it longer. A block that the call didn't change
+ * is as it was, with a summary or without. */
 static uint64_t put_together(uint8_t *log, uint64_t used_before)
 {
-    for (size_t i = 0; i < blocks; i++)
-        write_block(log + BLOCK_LEN * i, list[i].number, list[i].count, list[i].samples);
+    for (size_t i = 0; i < blocks; i++) {
+        const struct block *b = &list[i];
+        if (b->summary || BROKEN(118))
+            write_block(log + BLOCK_LEN * i, b->number, b->count, b->samples);
+        else
+            write_old_block(log + BLOCK_LEN * i, b->number, b->count, b->samples);
+    }
     return (BROKEN(88) ? used_before : blocks) << 8;
 }
 
@@ -97,7 +105,9 @@ static void new_block(void)
     const struct block *last = last_block();
     uint32_t number = last ? last->number + !BROKEN(90) : !BROKEN(91);
 
-    *one_more() = (struct block){.number = number};
+    if (last && BROKEN(119))
+        list[blocks - 1].summary = true;
+    *one_more() = (struct block){.number = number, .summary = true};
 }
 
 /* Whether a sample has no room in the last block. */
@@ -133,6 +143,7 @@ uint64_t plain_log_add(uint8_t *log, size_t log_len, uint64_t used, const uint8_
     struct block *last = last_block();
     memcpy(last->samples + SAMPLE_LEN * last->count, sample, SAMPLE_LEN);
     last->count++;
+    last->summary = last->summary || !BROKEN(120);
     return put_together(log, used);
 }
 

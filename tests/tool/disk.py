@@ -37,14 +37,19 @@ def full(folder, checks):
 
 
 def full_for_demo(folder, checks):
-    with checks.group("demo --keep on a full disk: one line, status 2; each of the three files is whole, or not there") as group:
-        for size in SIZES + (688, 44639):
-            name, blocked = f"new{size}", "factory.image" if size < 640 else "day.rows"
+    kept = {"factory.image": 640, "day.rows": 44640, "module.state": 688, "day.log": 55296}
+    with checks.group("demo --keep on a full disk: one line, status 2; each of the four files is whole, or not there") as group:
+        group.same("without a limit", (0, ""), zikhrodan(folder, "demo", "--keep", "whole")[::2])
+        for size in SIZES + (688, 44639, 44640, 55295):
+            name, blocked = f"new{size}", next(file for file, needs in kept.items() if needs > size)
             status, _, complaint = zikhrodan(folder, "demo", "--keep", name, **limited(size))
             group.same(name, (2, f"zikhrodan: {name}/{blocked}: File too large\n"), (status, complaint))
-            group.same(f"{size}: files", ["factory.image"] if size >= 640 else [], os.listdir(folder / name))
-            if size >= 640:
-                group.same(f"{size}: the image", IMAGE, (folder / name / "factory.image").read_bytes())
+            left = list(kept)[:list(kept).index(blocked)]
+            group.same(f"{size}: files", sorted(left), sorted(os.listdir(folder / name)))
+            for file in left:
+                group.same(f"{size}: {file}", (folder / "whole" / file).read_bytes(), (folder / name / file).read_bytes())
+        group.same("the image", IMAGE, (folder / "whole" / "factory.image").read_bytes())
+        group.same("55296 bytes", (0, ""), zikhrodan(folder, "demo", "--keep", "enough", **limited(55296))[::2])
 
 
 def another(folder):

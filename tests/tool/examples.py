@@ -6,6 +6,7 @@ in one scratch folder, from its beginning to its end.
 import re
 import subprocess
 
+from station import command
 from transcript import ROOT, Step, Transcript, play_all, scratch, seen
 
 DOCUMENTS = ("README.md", "docs/OPERATOR.md", "docs/CLIENTS.md")
@@ -21,12 +22,12 @@ EXEMPT = {
 
 
 def helped(word):
-    return subprocess.run([ROOT / "zikhrodan", *word], capture_output=True, text=True, timeout=120, check=True).stdout
+    return subprocess.run(command(*word), capture_output=True, text=True, timeout=120, check=True).stdout
 
 
 def commands_of(text):
     """The commands that a help lists."""
-    return re.findall(r"^  ([a-z][a-z-]*) +(?:STATE|COMMAND|FILE|\[)", text, re.M)
+    return re.findall(r"^  ([a-z][a-z-]*) +(?:STATE|COMMAND|FILE|LOG|\[)", text, re.M)
 
 
 def all_commands():
@@ -39,7 +40,7 @@ def all_commands():
 
 def commands(folder, checks):
     names = all_commands()
-    checks.same("zikhrodan --help lists eight commands, of which one has four of its own", (8, 4),
+    checks.same("zikhrodan --help lists ten commands, of which one has four of its own", (10, 4),
                 tuple(sum(len(words) == count for words in names) for count in (1, 2)))
     for words in names:
         name = " ".join(words)

@@ -16,8 +16,10 @@ OLD, NEW = rows_from(0, 20), rows_from(20, 15)
 ADD, POWER_UP = ("log", "add", "kept.log", "new.rows"), ("log", "power-up", "kept.log")
 SAMPLE = ("sample", "--log", "kept.log", "module.state", "new.rows")
 LAST_CALL = 5  # of an add to the log: the new blocks' write and sync, the head's, and the write of the last block in its place
+FIRST_KEPT = 10  # of those of demo's log, after a write and two syncs for each of three files
 FOUR_FILES = 'set -euo pipefail; . "$0"; way=${EMULATED:+$(emulator)}; ulimit -n 4; exec ${way:+"$way"} "$@"'
-SHOWS = [("log", "show", "kept.log", *words) for words in ((), ("--from", "0"), ("--json",), ("--csv",))]
+SHOWS = ([("log", "show", "kept.log", *words) for words in ((), ("--from", "0"), ("--json",), ("--csv",))] +
+         [("died", "kept.log", *words) for words in ((), ("rx1",), ("--json",))])
 
 
 def kept(folder, rows=None):
@@ -113,6 +115,23 @@ def commits(folder, checks, program):
                            (look(path), len(logs.read(path.read_bytes())), (folder / "module.state").read_bytes()))
 
 
+def keeping(folder, checks, program):
+    folder.mkdir()
+    zikhrodan(folder, "demo", "--keep", "whole")
+    day = look(folder / "whole" / "day.log")
+    with checks.group("demo --keep: a write of its log fails: one line, status 2, no log; who is asked to end waits") as group:
+        group.same("the day", 1440, len(day))
+        for call in range(FIRST_KEPT, FIRST_KEPT + 3 + LAST_CALL):
+            name, done = f"fails{call}", call == FIRST_KEPT + 2 + LAST_CALL
+            (status, _, complaint), _ = recorded(folder, program, "demo", "--keep", name, RECORDED_FAILS=str(call))
+            group.same(name, (0, "") if done else (2, f"zikhrodan: {name}/day.log: Input/output error\n"), (status, complaint))
+            group.same(f"{name}: files", sorted(["day.log"] * done + ["day.rows", "factory.image", "module.state"]),
+                       sorted(os.listdir(folder / name)))
+            (status, _, _), _ = recorded(folder, program, "demo", "--keep", f"asks{call}", RECORDED_ASKS=str(call))
+            group.same(f"asks{call}", (True, day), (status in (-signal.SIGTERM, 128 + signal.SIGTERM),
+                                                    look(folder / f"asks{call}" / "day.log")))
+
+
 def rights(folder, checks):
     user = another(folder)
     with checks.group("a log that cannot be read or written: one line, status 2, nothing is changed; a look may be had") as group:
@@ -177,7 +196,7 @@ def many(folder, checks):
         rows = rows_from(0, 20000)
         (folder / "new.rows").write_bytes(b"".join(rows))
         group.same("log new", 0, zikhrodan(folder, "log", "new", "kept.log", 1250)[0])
-        for words, lines in ((ADD, 2), *zip(SHOWS[1:], (20004, 21268, 20001))):
+        for words, lines in ((ADD, 2), *zip(SHOWS[1:], (20004, 21268, 20001, 27, 1, 33))):
             started = time.monotonic()
             status, said, _ = zikhrodan(folder, *words)
             group.same(words, (0, lines), (status, said.count("\n")))
@@ -187,7 +206,9 @@ def many(folder, checks):
 
 def run(folder, checks):
     full(folder / "full", checks)
-    failing(folder / "failing", checks, build(folder / "program"))
+    program = build(folder / "program")
+    failing(folder / "failing", checks, program)
+    keeping(folder / "keeping", checks, program)
     rights(folder, checks)
     few(folder / "few", checks)
     outputs(folder / "outputs", checks)

@@ -2,7 +2,8 @@
 
   python3 tests/tool/logs.py FILE ROOM FIRST [COUNT ..]
 
-makes a file with room for ROOM blocks, whose used blocks are numbered from FIRST on and have so many samples each.
+makes a file with room for ROOM blocks, whose used blocks are numbered from FIRST on and have so many samples each. With `old`
+after COUNT, as in 16old, the block has no summary.
 """
 import struct
 import sys
@@ -11,6 +12,7 @@ from pathlib import Path
 
 BLOCK, SAMPLE, SAMPLES, SLOT, MAGIC = 512, 31, 16, 2048, b"zikhrodan log 1\n"
 HEAD = 2 * SLOT
+SUMMARY_AT, STATUS = 501, 3
 ROOM_AT = len(MAGIC) + 8
 
 
@@ -18,9 +20,23 @@ class Broken(Exception):
     """The bytes are no sound log."""
 
 
-def block(number, samples):
-    body = (struct.pack(">IB", number, len(samples)) + b"".join(samples)).ljust(BLOCK - 2, b"\0")
+def summed(front, summary):
+    body = (front.ljust(SUMMARY_AT, b"\0") + summary).ljust(BLOCK - 2, b"\0")
     return body + struct.pack(">H", sum(body) & 0xFFFF)
+
+
+def old_block(number, samples):
+    """A block without a summary, as they were before document 02's Ask 9."""
+    return summed(struct.pack(">IB", number, len(samples)) + b"".join(samples), b"")
+
+
+def block(number, samples):
+    """A block with its summary, the OR of the samples' status bytes, and the mark that it has one."""
+    summary = bytearray(STATUS)
+    for sample in samples:
+        for at in range(STATUS):
+            summary[at] |= sample[at]
+    return summed(struct.pack(">IB", number, len(samples)) + b"".join(samples), bytes(summary) + b"\1")
 
 
 def slot(serial, room, used, place, copy):
@@ -28,10 +44,10 @@ def slot(serial, room, used, place, copy):
     return body + struct.pack(">I", zlib.crc32(body))
 
 
-def blocks_of(samples, number=1):
+def blocks_of(samples, number=1, one=block):
     """The blocks of samples that are added one after the other to an empty log."""
     parts = [samples[at:at + SAMPLES] for at in range(0, len(samples), SAMPLES)]
-    return [block(number + at, part) for at, part in enumerate(parts)]
+    return [one(number + at, part) for at, part in enumerate(parts)]
 
 
 def file_of(room, blocks):
@@ -50,10 +66,10 @@ def slot_in(run, length):
 
 
 def samples_in(run, number):
-    """The samples of a block, which has the number, unless that is none."""
+    """The number and samples of a block, with a summary that is exact or with none; its number is this, unless that is none."""
     own, count = struct.unpack_from(">IB", run)
     samples = [run[5 + SAMPLE * at:5 + SAMPLE * (at + 1)] for at in range(min(count, SAMPLES))]
-    if count > SAMPLES or run != block(own, samples) or number not in (None, own):
+    if count > SAMPLES or run not in (block(own, samples), old_block(own, samples)) or number not in (None, own):
         raise Broken(f"block {own} is unsound")
     return own, samples
 
@@ -80,9 +96,12 @@ def samples_of(path):
 
 
 def main(words):
-    room, first, *counts = map(int, words[1:])
-    rows = [[bytes([at, number]).rjust(SAMPLE, b"\0") for number in range(count)] for at, count in enumerate(counts)]
-    Path(words[0]).write_bytes(file_of(room, [block(first + at, row) for at, row in enumerate(rows)]))
+    room, first = map(int, words[1:3])
+    blocks = []
+    for at, word in enumerate(words[3:]):
+        samples = [bytes([at, number]).rjust(SAMPLE, b"\0") for number in range(int(word.removesuffix("old")))]
+        blocks.append((old_block if word.endswith("old") else block)(first + at, samples))
+    Path(words[0]).write_bytes(file_of(room, blocks))
 
 
 if __name__ == "__main__":

@@ -6,7 +6,8 @@ from examples import all_commands, helped
 from transcript import ROOT, Step, scratch, seen
 
 PAGE = ROOT / "station" / "zikhrodan.1"
-OPTION = re.compile(r"(?<![\w-])--[a-z]+")
+OPTION = re.compile(r"(?<![\w-])-(?:-[a-z]+|[a-z](?![\w-]))")
+LISTED = re.compile(r"(?<![\w-])--[a-z]+|(?<=\n  )-[a-z](?![\w-])")  # in a help, where ethtool's own options stand in the text
 NAME = r"[a-z]+(?: [a-z][a-z-]*)?"
 
 
@@ -26,7 +27,7 @@ def run(folder, checks):
             line = " ".join(re.search(rf"^zikhrodan {name}(.*(?:\n .*)*)", synopsis, re.M).group(1).split())
             text = helped([*name.split(), "--help"])
             usage = re.match(rf"usage: zikhrodan {name} ?(.*)", text).group(1)
-            options = set(OPTION.findall(text.split("\nExamples")[0]))
+            options = set(LISTED.findall(text.split("\nExamples")[0]))
             group.same(f"{name}: options", options, set(OPTION.findall(line)))
             if "OPTION" not in usage:
                 group.same(f"{name}: usage", usage, line)

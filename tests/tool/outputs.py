@@ -78,13 +78,13 @@ def telling(folder, checks):
                 seen = without_output(lambda how=kept, words=words, **lost: how.run("show", *words, **lost), what)
                 group.same(f"{words}, {what}", (2, "", f"zikhrodan: standard output: {what}\n"), seen)
         group.same("the 688 bytes, and other files", (True, []), (kept.agrees(), kept.others()))
-    with checks.group("demo --keep: standard output cannot be written: one line, status 2, the three files are whole") as group:
+    with checks.group("demo --keep: standard output cannot be written: one line, status 2, the four files are whole") as group:
         whole = zikhrodan(folder, "demo", "--keep", "whole")
         group.same("kept", 0, whole[0])
         for number, what in enumerate(WAYS):
             seen = without_output(lambda to=f"kept{number}", **lost: zikhrodan(folder, "demo", "--keep", to, **lost), what)
             group.same(what, (2, "", f"zikhrodan: standard output: {what}\n"), seen)
-            for name in ("factory.image", "day.rows", "module.state"):
+            for name in ("factory.image", "day.rows", "module.state", "day.log"):
                 group.same(name, (folder / "whole" / name).read_bytes(), (folder / f"kept{number}" / name).read_bytes())
 
 

@@ -1,4 +1,5 @@
-"""rules.py: the tool decides nothing: the numbers of the documents' rules do not stand in its sources, nor is a limit compared.
+"""rules.py: the tool decides nothing: the numbers of the documents' rules do not stand in its sources, nor is a limit compared,
+and when a line died is asked of the library, not read in samples.
 
 Comments and text in quotes are left out; what is looked at is the C code's words, numbers and signs.
 """
@@ -15,13 +16,18 @@ RULES = {
     "whether Tx power is offered": {220},
     "the shared list": {86, 87, 88, 93, 98, *range(234, 242)},
     "what reads 0": set(range(119, 127)),
-    "where a log's block has its sum, and the last number": {*range(501, 511), 4294967295},
+    "where a log's block has its summary and its sum, and the last number": {*range(501, 511), 4294967295},
 }
 # Code that has such a number for another reason: its file, its text, the reason.
 EXEMPT = (
     ("ask.c", "enum { FIRST_LEN = 192 - 128, SECOND_LEN = 224 - 192 };", "the extents of the two check codes"),
+    ("page.c", "enum { ONE_MORE = 0xC0, TWO_MORE = 0xE0, THREE_MORE = 0xF0, NO_FIRST = 0xF5, FOLLOWING = 0x80 };",
+     "bytes of UTF-8"),
     ("day.c", "return (int)((minute * 37 + line * 101) % 17) - 8;", "a made-up unrest; 101 is no address"),
 )
+# What reads the samples of a log, or a status bit of one; and the question that spares it.
+READS = {"log_sample", "zikhrodan_log_sample", "line_of"}
+ASKED, QUESTION = "log_first", "zikhrodan_log_first"
 TOKEN = re.compile(r"0[xX][0-9a-fA-F]+|\d[\w.]*|\w+|->|<<=?|>>=?|[<>=!]=|\S")
 COMPARED = {"<", ">", "<=", ">=", "==", "!="}
 
@@ -57,6 +63,11 @@ def comparisons(code, limits):
     return [" ".join(tokens) for tokens in statements if limits & set(tokens) and COMPARED & set(tokens)]
 
 
+def readings(code):
+    """The words in the code that read samples."""
+    return sorted(READS & set(TOKEN.findall(code)))
+
+
 def trials(checks):
     """What the check is to see, in an edit on trial, and what it is not to."""
     with checks.group("an edit that brings a rule in is seen; a comment, a text or another number is not") as group:
@@ -71,6 +82,10 @@ def trials(checks):
         for code in ("high = zikhrodan_limit(s->bytes, n, 0, 0); x = high; if (a < b) y();",
                      "for (i = 0; i < 4; i++) x[i] = zikhrodan_limit(s, n, q << 1, i);"):
             group.same(code, [], comparisons(bare(code), limits_in([bare(code)])))
+        for code in ("x = log_sample(log, 0, 0)[2];", "while (!line_of(s, bit)) s++;", "zikhrodan_log_sample(b, n, u, 0);"):
+            group.same(code, 1, len(readings(bare(code))))
+        for code in ("/* line_of */ x = 1;", "zikhrodan_log_first(b, n, u, bit);", 'puts("log_sample");'):
+            group.same(code, [], readings(bare(code)))
 
 
 def run(_folder, checks):
@@ -86,3 +101,11 @@ def run(_folder, checks):
         with checks.group(f"station/{name} has no rule of the documents, and compares no limit") as group:
             group.same("numbers", [], numbers(bare(text)))
             group.same("comparisons", [], comparisons(bare(text), limits))
+    with checks.group("when a line died is asked of the library: no source of died's reads a sample") as group:
+        own = [name for name in texts if re.fullmatch(r"died\w*\.[ch]", name)]
+        group.same("its sources", True, "died.c" in own)
+        group.same("it asks", 1, TOKEN.findall(bare(texts["died.c"])).count(ASKED))
+        group.same("the question", {"logcalls.c": 1}, {name: count for name, text in texts.items()
+                                                       if (count := TOKEN.findall(bare(text)).count(QUESTION))})
+        for name in own:
+            group.same(name, [], readings(bare(texts[name])))

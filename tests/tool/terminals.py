@@ -58,7 +58,8 @@ def with_log(kept):
 def colours(folder, checks):
     kept = with_log(Kept(folder / "colours"))
     for words in (("demo",), ("read", "module.state", "recorder", 2, 1), ("watch", "module.state", "loss.rows"),
-                  ("show", "module.state"), ("show", "module.state", "--hex"), ("log", "show", "loss.log")):
+                  ("show", "module.state"), ("show", "module.state", "--hex"), ("log", "show", "loss.log"), ("died", "loss.log"),
+                  ("died", "loss.log", "rx2")):
         with checks.group(f"{words[0]}: colours on a terminal; none with NO_COLOR (also empty), TERM=dumb, in a pipe") as group:
             kept.put()
             plain = subprocess.run(command(*words), check=True, **settled(kept.folder)).stdout.decode()

@@ -8,6 +8,8 @@ import sys
 import tempfile
 from pathlib import Path
 
+import died
+import died_hours
 import disk
 import examples
 import keys
@@ -20,6 +22,11 @@ import log_together
 import manual
 import outputs
 import pauses
+import report
+import report_drawn
+import report_hardships
+import report_looks
+import report_whole
 import rules
 import stored
 import synced
@@ -28,7 +35,8 @@ import together
 from bench import Checks
 
 PARTS = {part.__name__: part for part in (rules, manual, stored, examples, keys, outputs, disk, synced, kills, together, pauses,
-                                           links, terminals, log_kills, log_power, log_together, log_hardships)}
+                                           links, terminals, log_kills, log_power, log_together, log_hardships, died,
+                                           died_hours, report, report_whole, report_drawn, report_looks, report_hardships)}
 
 
 def main(names):

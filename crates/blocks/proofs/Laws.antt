@@ -1,4 +1,4 @@
--- What the functions of a block do, in the words of the definitions.
+-- What the functions of a block do, in the words of the definitions: blocks that are written, and sound by themselves.
 -- Assumes nothing.
 use mathlib.Core.Path.{_≡_, refl, sym, ap, _∙_}
 use mathlib.Core.Bool.{true, false, _&&_}
@@ -7,61 +7,24 @@ use Prim.Native.Nat.{ℕ, zero, suc, _+_, _-_, _/_, _%_, _≤_, _<_}
 use native.Mathlib.Omega.{arith}
 use lib.Dec.{ltb, eqb}
 use lib.ListN.{length, set, length-set}
-use borrow.Author.Tests.{lt-ltb, le-ltb, lt-leb, le-leb, ltb-true, ltb-false, eq-eqb, ne-eqb, eqb-true, eqb-false}
+use borrow.Author.Tests.{le-ltb, lt-leb, le-leb, ltb-true, ltb-false}
 use Rattle.laws.specs.Tests.{if_then_else_, covers}
-use Rattle.laws.specs.Lists.{at, part, table, patch, sum}
-use Rattle.laws.proofs.Tests.{case, covers-in, covers-below, covers-above}
-use Rattle.laws.proofs.Lists.{is-table, patch-length, patch-at, at-set}
+use Rattle.laws.specs.Lists.{at, table, patch}
+use Rattle.laws.proofs.Tests.{case, covers-in, covers-above}
+use Rattle.laws.proofs.Lists.{patch-length, patch-at, at-set}
 use Rattle.laws.proofs.Fronts.{front-in, is-front}
 use Rattle.laws.proofs.Parts.{table-same}
-use Rattle.log.specs.Block.{blockSize, sampleSize, count, mostSamples, slot, numberBytes, countAt, roomEnd, checkOf, sealed, holds, ended, soundBlock, fresh, grown}
-use Rattle.log.proofs.Blocks.{check-used, sealed-same, number-past}
-
--- ---- the end of a block
-
-holds-same : (a n : ℕ) (f g : ℕ → ℕ) (b : List ℕ) → ((j : ℕ) → j < n → f j ≡ g j) → holds a n f b ≡ holds a n g b
-unfolding holds
-holds-same a zero f g b same = refl
-holds-same a (suc n) f g b same = rw (holds-same a n f g b (λ j h. same j (omega arith)), same n (omega arith))
-
--- nine zeros and the two bytes of the check
-pub sealed-parts : (b : List ℕ) → ((holds roomEnd 9 (λ j. 0) b && eqb (at b 510) (checkOf (at b) / 256)) && eqb (at b 511) (checkOf (at b) % 256))
-    ≡ ended b
-unfolding holds sealed
-sealed-parts b =
-    rw (holds-same roomEnd 9 (λ j. sealed (at b) (roomEnd + j)) (λ j. 0) b
-    (λ j h. rw (lt-ltb (roomEnd + j) 510 (omega arith), le-ltb (roomEnd + j) roomEnd (omega arith))))
-
-module _ (b : List ℕ) (long : length b ≡ blockSize) where
-  -- the check goes by all the bytes before byte 501
-  pub check-all : checkOf (at b) ≡ sum (part 0 roomEnd b) % 65536
-  check-all = check-used b roomEnd (omega arith) (omega arith) (unfold holds in refl)
-
-  pub seal-done : (c : ℕ) → c ≡ sum (part 0 roomEnd b) % 65536
-      → set (set (patch roomEnd 9 (λ j. 0) b) 510 (c / 256)) 511 (c % 256) ≡ table blockSize (sealed (at b))
-  unfolding sealed
-  seal-done c e =
-      let k : checkOf (at b) ≡ c = check-all ∙ sym e in
-      let p : List ℕ = patch roomEnd 9 (λ j. 0) b in
-      let l : length p ≡ blockSize = patch-length roomEnd 9 (λ j. 0) b ∙ long in
-      let m : length (set p 510 (c / 256)) ≡ blockSize = length-set p 510 (c / 256) ∙ l in
-      is-table (set (set p 510 (c / 256)) 511 (c % 256)) blockSize (sealed (at b)) (length-set (set p 510 (c / 256)) 511 (c % 256) ∙ m)
-      (λ i h. at-set (set p 510 (c / 256)) 511 (c % 256) i (omega arith) ∙ case (ltb i 510)
-      (λ t. let u = ltb-true i 510 t in
-      rw (ne-eqb i 511 (λ z. omega arith), t) (at-set p 510 (c / 256) i (omega arith)
-      ∙ rw (ne-eqb i 510 (λ z. omega arith)) (patch-at roomEnd 9 (λ j. 0) b i (omega arith)
-      ∙ case (ltb i roomEnd)
-      (λ q. rw (q, covers-below roomEnd 9 i (ltb-true i roomEnd q)))
-      (λ q. rw (q, covers-in roomEnd 9 i (ltb-false i roomEnd q) (omega arith))))))
-      (λ t. let u = ltb-false i 510 t in case (eqb i 510)
-      (λ q. let z = eqb-true i 510 q in rw (t, q, k, ne-eqb i 511 (λ w. omega arith)) (at-set p 510 (c / 256) i (omega arith) ∙ rw q))
-      (λ q. let d = eqb-false i 510 q in let z : i ≡ 511 = omega (arith, d) in rw (t, q, k, eq-eqb i 511 z))))
+use Rattle.log.specs.Block.{blockSize, sampleSize, count, mostSamples, slot, numberBytes, countAt, roomEnd, sealed, holds, summed, checked, soundBlock, fresh, grown}
+use Rattle.log.proofs.Sealed.{sealed-same}
+use Rattle.log.proofs.Blocks.{number-past}
 
 -- ---- blocks that are written
 
 -- a block that is sealed once its places before byte 501 hold f
-resealed : (t : List ℕ) (f : ℕ → ℕ) → ((i : ℕ) → i < roomEnd → at t i ≡ f i) → table blockSize (sealed (at t)) ≡ table blockSize (sealed f)
-resealed t f same = table-same blockSize (sealed (at t)) (sealed f) (λ i h. sealed-same (at t) f same i)
+resealed : (t : List ℕ) (f : ℕ → ℕ) → f countAt ≤ mostSamples → ((i : ℕ) → i < roomEnd → at t i ≡ f i)
+    → table blockSize (sealed (at t)) ≡ table blockSize (sealed f)
+resealed t f few same =
+    table-same blockSize (sealed (at t)) (sealed f) (λ i h. sym (sealed-same f (at t) few (λ j l. sym (same j l)) i))
 
 -- the code's four writes
 abbrev pub four : List ℕ → ℕ → List ℕ
@@ -88,20 +51,26 @@ module _ (b : List ℕ) (long : length b ≡ blockSize) where
       ∙ length-set (set b 0 (n / 256 / 256 / 256 % 256)) 1 (n / 256 / 256 % 256) ∙ length-set b 0 (n / 256 / 256 / 256 % 256))
       (λ i h. four-at b n i (omega arith))
 
-  pub begin-done : (n : ℕ) (t : List ℕ) → t ≡ patch 0 blockSize (λ j. 0) b → table blockSize (sealed (at (patch 0 countAt (at (numberBytes n)) t))) ≡ fresh n
-  unfolding fresh
-  begin-done n t e =
+  -- a number in a block of zeros, place by place before byte 501
+  begun : (n : ℕ) (t : List ℕ) → t ≡ patch 0 blockSize (λ j. 0) b → (i : ℕ) → i < roomEnd → at (patch 0 countAt (at (numberBytes n)) t) i ≡ at (numberBytes n) i
+  begun n t e i h =
       let l : length t ≡ blockSize = ap length e ∙ patch-length 0 blockSize (λ j. 0) b ∙ long in
-      resealed (patch 0 countAt (at (numberBytes n)) t) (at (numberBytes n)) (λ i h.
       patch-at 0 countAt (at (numberBytes n)) t i (omega arith) ∙ case (ltb i countAt)
       (λ q. let u = ltb-true i countAt q in let z : i - 0 ≡ i = omega arith in rw (covers-in 0 countAt i (omega arith) (omega arith), z))
       (λ q. let u = ltb-false i countAt q in
-      rw (covers-above 0 countAt i (omega arith)) (rw e (front-in blockSize (λ j. 0) b i (omega arith) (omega arith)) ∙ sym (number-past n i u))))
+      rw (covers-above 0 countAt i (omega arith)) (rw e (front-in blockSize (λ j. 0) b i (omega arith) (omega arith)) ∙ sym (number-past n i u)))
+
+  pub begin-few : (n : ℕ) (t : List ℕ) → t ≡ patch 0 blockSize (λ j. 0) b → count (patch 0 countAt (at (numberBytes n)) t) ≤ mostSamples
+  begin-few n t e = rw (begun n t e countAt (omega arith)) (omega arith)
+
+  pub begin-done : (n : ℕ) (t : List ℕ) → t ≡ patch 0 blockSize (λ j. 0) b → table blockSize (sealed (at (patch 0 countAt (at (numberBytes n)) t))) ≡ fresh n
+  unfolding fresh
+  begin-done n t e = resealed (patch 0 countAt (at (numberBytes n)) t) (at (numberBytes n)) (omega arith) (begun n t e)
 
   pub grow-done : (x : List ℕ) → count b < mostSamples
       → table blockSize (sealed (at (set (patch (slot (count b)) sampleSize (λ j. at x (0 + j)) b) countAt (count b + 1)))) ≡ grown b x
   unfolding grown
-  grow-done x room = resealed (set p countAt (count b + 1)) places same
+  grow-done x room = resealed (set p countAt (count b + 1)) places (omega arith) same
     where
       p : List ℕ
       p = patch (slot (count b)) sampleSize (λ j. at x (0 + j)) b
@@ -131,6 +100,6 @@ module _ (b : List ℕ) where
   sound-roomy h e = rw (le-leb (count b) mostSamples h, e)
 
   pub sound-end : count b ≤ mostSamples → holds (slot (count b)) (roomEnd - slot (count b)) (λ j. 0) b ≡ true
-      → ended b ≡ soundBlock b
+      → (summed b && checked b) ≡ soundBlock b
   unfolding soundBlock
   sound-end h e = rw (le-leb (count b) mostSamples h, e)

@@ -1,10 +1,10 @@
 // One block of a log, on lent memory: whether it is sound, its number, and the blocks that are written.
-// Proved: each function gives the definition that its contract cites (document 02, Ask 1).
+// Proved: each function gives the definition that its contract cites (document 02, Ask 1 and Ask 9).
 ghost use mathlib.Core.Path.{_≡_};
 ghost use Prim.Native.Nat.{_+_, _*_, _%_, _≤_, _<_};
 ghost use lib.ListN.{length};
 ghost use Rattle.laws.specs.Lists.{at, part, table, patch, sum};
-ghost use Rattle.log.specs.Block.{blockSize, sampleSize, number, numberBytes, countAt, count, mostSamples, checkOf, sealed, holds, ended, soundBlock, fresh, grown};
+ghost use Rattle.log.specs.Block.{blockSize, sampleSize, number, numberBytes, countAt, count, mostSamples, roomEnd, anyTo, summary, sealed, holds, summed, checked, soundBlock, fresh, grown};
 
 pub const BLOCK_LEN: usize = 512;
 
@@ -17,11 +17,14 @@ const COUNT_AT: usize = 4;
 // Where the room for samples begins, and where it ends.
 pub const ROOM_AT: usize = 5;
 
-const ROOM_END: usize = 501;
+pub const ROOM_END: usize = 501;
+
+// 1 where the block has a summary.
+pub const MARK_AT: usize = 504;
 
 // A byte as a wider number.
 fn wide(b: u8) -> u16
-    ensures { λ r. ⌜ r ≡ b ⌝ }
+    ensures { λ r. ⌜ (r ≡ b) × (r < 256) ⌝ }
 {
     b as u16
 }
@@ -52,30 +55,90 @@ fn is_blank(s: &[u8], from: usize, n: usize) -> bool
 
 // ---- bytes 501 to 511
 
-// Whether they are as they must be, given the check of the bytes before.
-fn is_sealed(block: &[u8], check: u16) -> bool
-    requires { ⌜ (length (now block) ≡ blockSize) × (check ≡ checkOf (at (now block))) ⌝ }
-    ensures { λ r. ⌜ r ≡ ended (now (block .entry)) ⌝ }
-{
-    let blank = is_blank(block, ROOM_END, 9);
-    blank & (block[510] == (check / 256) as u8) & (block[511] == (check % 256) as u8)
+// The OR of each of the three status bytes over some samples.
+struct Status {
+    first: u8,
+    second: u8,
+    third: u8,
 }
 
-// Writes them: the one function that does.
-fn seal(block: &mut [u8])
+// Over the first `n` samples of a block.
+fn status_of(block: &[u8], n: usize) -> Status
+    requires { ⌜ (length (now block) ≡ blockSize) × (n ≤ mostSamples) ⌝ }
+    ensures { λ r. ⌜ (r .first ≡ anyTo (at (now (block .entry))) 0 n) × (r .second ≡ anyTo (at (now (block .entry))) 1 n) × (r .third ≡ anyTo (at (now (block .entry))) 2 n) ⌝ }
+{
+    let mut first: u8 = 0;
+    let mut second: u8 = 0;
+    let mut third: u8 = 0;
+    for k in 0..n {
+        let slot = ROOM_AT + SAMPLE_LEN * k;
+        first = first | block[slot];
+        second = second | block[slot + 1];
+        third = third | block[slot + 2];
+    }
+    Status {
+        first,
+        second,
+        third,
+    }
+}
+
+// Whether bytes 501 to 509 are a summary of the samples, or all 0.
+fn is_summed(block: &[u8]) -> bool
+    requires { ⌜ (length (now block) ≡ blockSize) × (count (now block) ≤ mostSamples) ⌝ }
+    ensures { λ r. ⌜ r ≡ summed (now (block .entry)) ⌝ }
+{
+    if block[MARK_AT] == 0 {
+        return is_blank(block, ROOM_END, 9);
+    }
+    let s = status_of(block, block[COUNT_AT] as usize);
+    let rest = is_blank(block, MARK_AT + 1, 5);
+    (block[501] == s.first)
+        & (block[502] == s.second)
+        & (block[503] == s.third)
+        & (block[MARK_AT] == 1)
+        & rest
+}
+
+// Whether bytes 510 and 511 are the check of those before them: the sum of all 512 is then the number that the two make, plus the
+// two.
+fn is_checked(block: &[u8]) -> bool
     requires { ⌜ length (now block) ≡ blockSize ⌝ }
+    ensures { λ r. ⌜ r ≡ checked (now (block .entry)) ⌝ }
+{
+    let sum = sum16(block, 0, BLOCK_LEN);
+    let high = wide(block[510]);
+    let low = wide(block[511]);
+    sum == std::num::wrapping_add_u16(256 * high + low, high + low)
+}
+
+// Writes the summary, and 0 in the place of the check.
+fn put_summary(block: &mut [u8])
+    requires { ⌜ (length (now block) ≡ blockSize) × (count (now block) ≤ mostSamples) ⌝ }
+    ensures { λ _. ⌜ now (block .exit) ≡ patch roomEnd 11 (summary (at (now (block .entry)))) (now (block .entry)) ⌝ }
+{
+    let s = status_of(block, block[COUNT_AT] as usize);
+    moves::fill(block, ROOM_END, 11, 0);
+    block[501] = s.first;
+    block[502] = s.second;
+    block[503] = s.third;
+    block[MARK_AT] = 1;
+}
+
+// Writes them all: the one function that does.
+fn seal(block: &mut [u8])
+    requires { ⌜ (length (now block) ≡ blockSize) × (count (now block) ≤ mostSamples) ⌝ }
     ensures { λ _. ⌜ now (block .exit) ≡ table blockSize (sealed (at (now (block .entry)))) ⌝ }
 {
-    let check = sum16(block, 0, ROOM_END);
-    moves::fill(block, ROOM_END, 9, 0);
+    put_summary(block);
+    let check = sum16(block, 0, BLOCK_LEN);
     block[510] = (check / 256) as u8;
     block[511] = (check % 256) as u8;
 }
 
 // ---- a block that is there
 
-// Whether a block is sound by itself. No byte is looked at twice for one reason: those of its samples are added up, those of its unused
-// room are 0 and add nothing.
+// Whether a block is sound by itself: its unused room is 0, it has no summary or that of its samples, and its check is the sum.
 pub fn is_sound(block: &[u8]) -> bool
     requires { ⌜ length (now block) ≡ blockSize ⌝ }
     ensures { λ r. ⌜ r ≡ soundBlock (now (block .entry)) ⌝ }
@@ -86,7 +149,7 @@ pub fn is_sound(block: &[u8]) -> bool
     }
     let end = ROOM_AT + SAMPLE_LEN * (count as usize);
     if is_blank(block, end, ROOM_END - end) {
-        return is_sealed(block, sum16(block, 0, end));
+        return is_summed(block) & is_checked(block);
     }
     false
 }

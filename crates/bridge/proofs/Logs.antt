@@ -1,14 +1,20 @@
 -- The C face of a log: any two outcomes that a contract allows are equal, and a refused call answers its refusal's number alone.
 -- Assumes nothing.
-use mathlib.Core.Path.{_≡_, _∙_}
-use mathlib.Core.Logic.{_≢_}
+use mathlib.Core.Path.{_≡_, refl, sym, _∙_}
+use mathlib.Core.Logic.{_≢_, _↔_}
 use mathlib.Core.List.{List}
-use Prim.Native.Nat.{ℕ}
+use mathlib.Core.Option.{none, some}
+use Prim.Native.Nat.{ℕ, suc, _<_}
 use native.Mathlib.Omega.{arith}
+use lib.Dec.{eqb}
+use lib.ListN.{length}
+use Rattle.laws.proofs.Tests.{case}
 use Rattle.log.specs.Contracts.{addRefusal, powerUpRefusal, sampleRefusal}
+use Rattle.log.specs.Search.{Answer, refused, given, firstRefusal, firstTold}
+use Rattle.log.proofs.Least.{first-short, first-refused-by}
 use Rattle.log.proofs.Contracts.{added-unique, opened-unique, placed-unique, add-refused, power-up-refused, sample-refused}
 use Rattle.packing.specs.Packing.{bits0}
-use Rattle.bridge.specs.Face.{value, AddPacked, OpenPacked, SamplePacked}
+use Rattle.bridge.specs.Face.{value, AddPacked, OpenPacked, SamplePacked, FirstPacked, refusalOfFirst, valueOfFirst}
 
 -- ---- the refusal and the value beside it are the whole answer
 
@@ -42,3 +48,31 @@ pub sample-packed-refused : {log : List ℕ} {used k x : ℕ} → SamplePacked l
 sample-packed-refused {log} {used} {k} {x} p r =
     let e = placed-unique p (sample-refused log used k (bits0 x) (p .refusal-is) r) in
     told-alone x (e .1) ∙ p .refusal-is
+
+-- ---- the first sample with a status bit
+
+pub first-packed-unique : {log : List ℕ} {used k x y : ℕ} → FirstPacked log used k x → FirstPacked log used k y → x ≡ y
+first-packed-unique {x = x} {y = y} p q = told-unique x y (p .refusal-is ∙ sym (q .refusal-is)) (p .value-is ∙ sym (q .value-is))
+
+-- of memory below 2 to the 61st bytes, more than a machine can address, no position is cut
+pub first-whole : {log : List ℕ} {used k x i : ℕ} → FirstPacked log used k x → length log < 2305843009213693952 → firstTold log used k ≡ given (some i) → (bits0 x ≡ 0) × (value x ≡ suc i)
+first-whole {log} {used} {k} {x} {i} p h e =
+    let l = first-short log used k i e in
+    (p .refusal-is ∙ rw e, p .value-is ∙ rw e (omega arith))
+
+-- an answer of 0 says that no sample that is looked at has the bit
+pub first-packed-none : {log : List ℕ} {used k x : ℕ} → FirstPacked log used k x → length log < 2305843009213693952 → (x ≡ 0) ↔ (firstTold log used k ≡ given none)
+first-packed-none {log} {used} {k} {x} p h = (
+  (λ z. by (firstTold log used k) refl (sym (p .refusal-is) ∙ rw z) (sym (p .value-is) ∙ rw z)),
+  (λ e. told-alone x (p .value-is ∙ rw e) ∙ p .refusal-is ∙ rw e),
+)
+  where
+    by : (a : Answer) → firstTold log used k ≡ a → refusalOfFirst a ≡ 0 → valueOfFirst a ≡ 0 → a ≡ given none
+    by (refused n) e z v = absurd (first-refused-by log used k e z)
+    by (given none) e z v = refl
+    by (given (some i)) e z v = let l = first-short log used k i e in absurd (omega arith)
+
+pub first-packed-refused : {log : List ℕ} {used k x : ℕ} → FirstPacked log used k x → bits0 x ≢ 0 → x ≡ firstRefusal log used k
+first-packed-refused {log} {used} {k} {x} p r = case (eqb (firstRefusal log used k) 0)
+    (λ t. absurd (r (p .refusal-is ∙ rw t)))
+    (λ t. told-alone x (p .value-is ∙ rw t) ∙ p .refusal-is ∙ rw t)

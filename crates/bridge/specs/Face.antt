@@ -1,9 +1,10 @@
 -- What the functions that C calls promise: the contracts of model/specs and log/specs, the numbers packed into one.
 -- Assumes nothing.
-use Rattle.laws.specs.Words.{ℕ, _/_, _≡_, List}
+use Rattle.laws.specs.Words.{ℕ, suc, _/_, _%_, _≡_, List, none, some}
 use Rattle.model.specs.Ports.{Call}
 use Rattle.model.specs.Contracts.{Reported, ReadDone, WriteDone, Located, monitorTold}
 use Rattle.log.specs.Contracts.{Added, Opened, Placed}
+use Rattle.log.specs.Search.{Answer, refused, given, firstTold}
 use Rattle.packing.specs.Packing.{bits0, bits8, bits16, bits24, refusalIn, kindIn}
 
 -- ---- the calls that are lent the state to change it
@@ -52,3 +53,17 @@ OpenPacked log used answer left = Opened log used (bits0 answer) (value answer) 
 -- where the sample at a position begins: the refusal, the place
 abbrev pub SamplePacked : List ℕ → ℕ → ℕ → ℕ → Type 0
 SamplePacked log used k answer = Placed log used k (bits0 answer) (value answer)
+
+-- the first sample with a status bit: the refusal, and 0 for none or else the position plus 1, its low 56 bits
+abbrev pub refusalOfFirst : Answer → ℕ
+refusalOfFirst (refused n) = n
+refusalOfFirst (given r) = 0
+
+abbrev pub valueOfFirst : Answer → ℕ
+valueOfFirst (refused n) = 0
+valueOfFirst (given none) = 0
+valueOfFirst (given (some i)) = suc i % 72057594037927936
+
+pub record FirstPacked (log : List ℕ) (used k answer : ℕ) : Type 0 where
+  pub refusal-is : bits0 answer ≡ refusalOfFirst (firstTold log used k)
+  pub value-is : value answer ≡ valueOfFirst (firstTold log used k)

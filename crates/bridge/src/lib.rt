@@ -1,12 +1,14 @@
-// The C face: the calls of `module`, `readout`, `logging` and `finding` under the names of include/zikhrodan.h, over numbers and byte
-// slices. A slice is a pointer and then a length; an answer of several numbers is packed into one.
+// The C face: the calls of `module`, `readout`, `logging`, `finding` and `searching` under the names of include/zikhrodan.h, over
+// numbers and byte slices. A slice is a pointer and then a length; an answer of several numbers is packed into one.
 // Proved: each answer, and each byte left, is that of the definitions, through the calls' own contracts (specs/Face.antt).
 ghost use mathlib.Core.Path.{_≡_};
 ghost use Prim.Native.Nat.{_<_};
 ghost use Rattle.model.specs.Ports.{reset, sample};
 ghost use Rattle.model.specs.Contracts.{monitorTold, limitsTold};
 ghost use Rattle.packing.specs.Packing.{bits0, refusalIn, valueIn, limitIn};
-ghost use Rattle.bridge.specs.Face.{ReportPacked, ReadPacked, WritePacked, PlacePacked, KindPacked, AddPacked, OpenPacked, SamplePacked, value};
+ghost use Rattle.searching.specs.Meaning.{firstSays};
+ghost use Rattle.bridge.specs.Face.{ReportPacked, ReadPacked, WritePacked, PlacePacked, KindPacked, AddPacked, OpenPacked, SamplePacked, FirstPacked, refusalOfFirst, valueOfFirst, value};
+use searching::First;
 
 // ---- the calls that are lent the state to change it
 
@@ -119,4 +121,34 @@ pub extern "C" fn zikhrodan_log_sample(log: &[u8], used: u64, position: u64) -> 
 {
     let f = finding::sample_place(log, used, position);
     told(f.refusal, f.start)
+}
+
+// The refusal of an answer to the question, 0 where there is none.
+fn first_refusal(f: First) -> u8
+    ensures { λ r. ⌜ r ≡ refusalOfFirst (firstSays f) ⌝ }
+{
+    match f {
+        First::At(_) => 0,
+        First::Never => 0,
+        First::Refused(n) => n,
+    }
+}
+
+// 0 for none, and else the position plus 1, its low 56 bits.
+fn first_value(f: First) -> u64
+    ensures { λ r. ⌜ (r ≡ valueOfFirst (firstSays f)) × (r < 72057594037927936) ⌝ }
+{
+    match f {
+        First::At(n) => (n % 72057594037927936 + 1) % 72057594037927936,
+        First::Never => 0,
+        First::Refused(_) => 0,
+    }
+}
+
+#[no_mangle]
+pub extern "C" fn zikhrodan_log_first(log: &[u8], used: u64, bit: u64) -> u64
+    ensures { λ r. ⌜ FirstPacked (now (log .entry)) used bit r ⌝ }
+{
+    let f = searching::first_with(log, used, bit);
+    told(first_refusal(f), first_value(f))
 }

@@ -1,7 +1,7 @@
 -- Laws of single bits.
 -- Assumes nothing.
 use mathlib.Core.Path.{_≡_, sym, ap, _∙_}
-use mathlib.Core.Bool.{true, false}
+use mathlib.Core.Bool.{true, false, _||_}
 use Prim.Native.Nat.{ℕ, zero, suc, _+_, _-_, _*_, _/_, _%_, _^_, _≤_, _<_, min, max}
 use native.Mathlib.Nat.{zero-div, div-eq-of-lt, mod-lt, lt-of-le-of-lt}
 use native.Mathlib.Omega.{arith}
@@ -70,6 +70,13 @@ or-bit-left j a b e = let l = bit-or j a b in omega (arith, bit-small j b)
 
 pub or-bit-right : (j a b : ℕ) → bit j b ≡ 1 → bit j (bitOr a b) ≡ 1
 or-bit-right j a b e = let l = bit-or j a b in omega (arith, bit-small j a)
+
+pub has-or : (j a b : ℕ) → has j (bitOr a b) ≡ (has j a || has j b)
+has-or j a b = case (has j a)
+    (λ t. rw t (bit-has j (bitOr a b) (or-bit-left j a b (has-bit j a t))))
+    (λ t. case (has j b)
+    (λ u. rw (t, u) (bit-has j (bitOr a b) (or-bit-right j a b (has-bit j b u))))
+    (λ u. let l = bit-or j a b in let x = lacks-bit j a t in let y = lacks-bit j b u in rw (t, u) (bit-lacks j (bitOr a b) (omega arith))))
 
 -- an OR with a number whose four low bits are 0
 pub or-high : (a z : ℕ) → z % 16 ≡ 0 → bitOr a z % 16 ≡ a % 16

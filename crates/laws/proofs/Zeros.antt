@@ -1,8 +1,8 @@
--- Laws of zeros: an or that is 0, places that hold 0 in a sum.
+-- Laws of an or that is 0, and of one place more in a sum.
 -- Assumes nothing.
-use mathlib.Core.Path.{_≡_, sym, _∙_}
+use mathlib.Core.Path.{_≡_, sym}
 use mathlib.Core.Bool.{_&&_}
-use Prim.Native.Nat.{ℕ, zero, suc, _+_, _<_}
+use Prim.Native.Nat.{ℕ, zero, suc, _+_}
 use native.Mathlib.Omega.{arith}
 use lib.Bits.{bitOr, and-le-l, or-comm, or-add-and}
 use lib.Dec.{eqb}
@@ -25,12 +25,3 @@ pub sum-table : (n : ℕ) (f : ℕ → ℕ) → sum (table (suc n) f) ≡ sum (t
 unfolding sum table
 sum-table zero f = omega arith
 sum-table (suc n) f = let e = sum-table n (λ k. f (suc k)) in omega arith
-
--- places that hold 0 add nothing
-pub sum-blank : (n k : ℕ) (f : ℕ → ℕ) → ((j : ℕ) → j < k → f (n + j) ≡ 0) → sum (table (n + k) f) ≡ sum (table n f)
-sum-blank n zero f blank = let z : n + zero ≡ n = omega arith in rw z
-sum-blank n (suc k) f blank =
-    let z : n + suc k ≡ suc (n + k) = omega arith in
-    let e = sum-blank n k f (λ j h. blank j (omega arith)) in
-    let d = blank k (omega arith) in
-    rw z (sum-table (n + k) f ∙ omega arith)

@@ -1,90 +1,22 @@
--- Blocks: what a sealed block's places hold, and that a block that is written is sound and has the number and the samples it should.
+-- Blocks: what a sound block says of its places, and that a block that is written is sound and has the number and the samples it
+-- should.
 -- Assumes nothing.
 use mathlib.Core.Path.{_≡_, refl, sym, ap, _∙_}
 use mathlib.Core.Logic.{_≢_}
 use mathlib.Core.Bool.{true, false, _&&_}
 use mathlib.Core.List.{List, [], _∷_, _++_}
-use Prim.Native.Nat.{ℕ, zero, suc, _+_, _-_, _%_, _≤_, _<_}
+use Prim.Native.Nat.{ℕ, zero, suc, _+_, _-_, _/_, _%_, _≤_, _<_}
 use native.Mathlib.Omega.{arith}
-use lib.Dec.{leb, ltb, eqb}
+use lib.Dec.{leb, eqb}
 use lib.ListN.{length}
-use borrow.Author.Tests.{lt-ltb, le-leb, leb-true, ltb-true, eq-eqb, ne-eqb, eqb-true, eqb-false}
+use borrow.Author.Tests.{leb-true, ne-eqb, eqb-true}
 use Rattle.laws.specs.Tests.{if_then_else_, covers}
-use Rattle.laws.specs.Lists.{at, part, table, sum}
-use Rattle.laws.proofs.Tests.{case, and-left, and-right, and-both, covers-in, covers-below, covers-above}
-use Rattle.laws.proofs.Lists.{table-length, table-at}
-use Rattle.laws.proofs.Parts.{table-same, part-same, is-part, table-front}
-use Rattle.laws.proofs.Zeros.{sum-blank}
-use Rattle.log.specs.Block.{blockSize, sampleSize, number, numberBytes, countAt, count, mostSamples, slot, roomEnd, samplesTo, samplesIn, first510, checkOf, sealed, holds, ended, soundBlock, fresh, grown}
-
--- ---- places that hold what they should
-
-pub holds-at : (a n : ℕ) (f : ℕ → ℕ) (b : List ℕ) → holds a n f b ≡ true → (j : ℕ) → j < n → at b (a + j) ≡ f j
-unfolding holds
-holds-at a zero f b e j h = absurd (omega arith)
-holds-at a (suc n) f b e j h = case (eqb j n)
-    (λ t. let z = eqb-true j n t in rw z (eqb-true (at b (a + n)) (f n) (and-right (holds a n f b) (eqb (at b (a + n)) (f n)) e)))
-    (λ t. let d = eqb-false j n t in holds-at a n f b (and-left (holds a n f b) (eqb (at b (a + n)) (f n)) e) j (omega arith))
-
-pub at-holds : (a n : ℕ) (f : ℕ → ℕ) (b : List ℕ) → ((j : ℕ) → j < n → at b (a + j) ≡ f j) → holds a n f b ≡ true
-unfolding holds
-at-holds a zero f b same = refl
-at-holds a (suc n) f b same = and-both (at-holds a n f b (λ j h. same j (omega arith))) (eq-eqb (at b (a + n)) (f n) (same n (omega arith)))
-
--- ---- the end of a block goes by the places before 501 alone
-
-pub sealed-front : (f : ℕ → ℕ) (i : ℕ) → i < roomEnd → sealed f i ≡ f i
-unfolding sealed
-sealed-front f i h = rw (lt-ltb i 510 (omega arith), lt-ltb i roomEnd h)
-
-pub check-same : (f g : ℕ → ℕ) → ((i : ℕ) → i < roomEnd → f i ≡ g i) → checkOf f ≡ checkOf g
-unfolding checkOf
-check-same f g same =
-    ap (λ l. sum l % 65536) (table-same 510 (first510 f) (first510 g) (λ i h. case (ltb i roomEnd)
-    (λ t. rw t (same i (ltb-true i roomEnd t))) (λ t. rw t)))
-
-pub sealed-same : (f g : ℕ → ℕ) → ((i : ℕ) → i < roomEnd → f i ≡ g i) → (i : ℕ) → sealed f i ≡ sealed g i
-unfolding sealed
-sealed-same f g same i = case (ltb i roomEnd)
-    (λ t. rw (t, check-same f g same, same i (ltb-true i roomEnd t)))
-    (λ t. rw (t, check-same f g same))
-
--- a block whose room is zero from place e on: the sum of the bytes before e is the check
-pub check-used : (b : List ℕ) (e : ℕ) → e ≤ roomEnd → roomEnd ≤ length b → holds e (roomEnd - e) (λ j. 0) b ≡ true → checkOf (at b) ≡ sum (part 0 e b) % 65536
-unfolding checkOf
-check-used b e h l blank =
-    let z : e + (510 - e) ≡ 510 = omega arith in
-    let zeros : sum (table 510 (first510 (at b))) ≡ sum (table e (first510 (at b))) =
-    rw z at (sum-blank e (510 - e) (first510 (at b)) (λ j k. case (ltb (e + j) roomEnd)
-    (λ t. let u = ltb-true (e + j) roomEnd t in rw t (holds-at e (roomEnd - e) (λ j. 0) b blank j (omega arith)))
-    (λ t. rw t))) in
-    let front : table e (first510 (at b)) ≡ part 0 e b =
-    table-same e (first510 (at b)) (at b) (λ i k. rw (lt-ltb i roomEnd (omega arith))) ∙ table-front e b (omega arith) in
-    ap (λ n. n % 65536) (zeros ∙ ap sum front)
-
--- ---- a sealed block
-
-module _ (f : ℕ → ℕ) where
-  pub sealed-at : (i : ℕ) → i < roomEnd → at (table blockSize (sealed f)) i ≡ f i
-  sealed-at i h = table-at blockSize (sealed f) i (omega arith) ∙ sealed-front f i h
-
-  -- its end is as it must be
-  pub sealed-ends : ended (table blockSize (sealed f)) ≡ true
-  sealed-ends =
-      at-holds roomEnd (blockSize - roomEnd) (λ j. sealed (at (table blockSize (sealed f))) (roomEnd + j)) (table blockSize (sealed f))
-      (λ j h. table-at blockSize (sealed f) (roomEnd + j) (omega arith) ∙ sym (sealed-same (at (table blockSize (sealed f))) f sealed-at (roomEnd + j)))
-
-  -- it is sound if its count and its room are right
-  pub sealed-sound : (c : ℕ) → f countAt ≡ c → c ≤ mostSamples → ((i : ℕ) → slot c ≤ i → i < roomEnd → f i ≡ 0) → soundBlock (table blockSize (sealed f)) ≡ true
-  unfolding soundBlock
-  sealed-sound c e h blank =
-      let k : count (table blockSize (sealed f)) ≡ c = sealed-at countAt (omega arith) ∙ e in
-      rw (
-        k,
-        le-leb c mostSamples h,
-        at-holds (slot c) (roomEnd - slot c) (λ j. 0) (table blockSize (sealed f))
-            (λ j l. sealed-at (slot c + j) (omega arith) ∙ blank (slot c + j) (omega arith) (omega arith)),
-      ) sealed-ends
+use Rattle.laws.specs.Lists.{at, part}
+use Rattle.laws.proofs.Tests.{and-left, and-right, covers-in, covers-below, covers-above}
+use Rattle.laws.proofs.Lists.{table-length}
+use Rattle.laws.proofs.Parts.{part-same, is-part}
+use Rattle.log.specs.Block.{blockSize, sampleSize, number, numberBytes, countAt, count, mostSamples, slot, roomEnd, samplesTo, samplesIn, checkAt, checkOf, sealed, holds, summed, checked, ended, soundBlock, fresh, grown}
+use Rattle.log.proofs.Sealed.{holds-at, sealed-at, sealed-sound}
 
 -- ---- what a sound block says of its places
 
@@ -110,6 +42,14 @@ sound-ended b e =
     and-right (holds (slot (count b)) (roomEnd - slot (count b)) (λ j. 0) b) (ended b)
     (and-right (leb (count b) mostSamples) (holds (slot (count b)) (roomEnd - slot (count b)) (λ j. 0) b && ended b) e)
 
+-- its check is the sum of the bytes before it, as they stand
+pub sound-check : (b : List ℕ) → soundBlock b ≡ true → (at b checkAt ≡ checkOf (at b) / 256) × (at b (suc checkAt) ≡ checkOf (at b) % 256)
+sound-check b e =
+    let c = and-right (summed b) (checked b) (sound-ended b e) in (
+      eqb-true (at b checkAt) (checkOf (at b) / 256) (and-left (eqb (at b checkAt) (checkOf (at b) / 256)) (eqb (at b (suc checkAt)) (checkOf (at b) % 256)) c),
+      eqb-true (at b (suc checkAt)) (checkOf (at b) % 256) (and-right (eqb (at b checkAt) (checkOf (at b) / 256)) (eqb (at b (suc checkAt)) (checkOf (at b) % 256)) c),
+    )
+
 -- ---- block n with no samples
 
 module _ (n : ℕ) where
@@ -133,7 +73,7 @@ module _ (n : ℕ) where
 
   pub fresh-sound : soundBlock (fresh n) ≡ true
   unfolding fresh
-  fresh-sound = sealed-sound (at (numberBytes n)) 0 refl (omega arith) (λ i h l. number-past i (omega arith))
+  fresh-sound = sealed-sound (at (numberBytes n)) (omega arith) (λ i h l. number-past i (omega arith))
 
   pub fresh-number : n < 4294967296 → number (fresh n) ≡ n
   unfolding fresh
@@ -148,7 +88,7 @@ module _ (n : ℕ) where
 -- ---- block b with one sample more
 
 module _ (b x : List ℕ) (room : count b < mostSamples) (long : length x ≡ sampleSize) where
-  abbrev places : ℕ → ℕ
+  abbrev pub places : ℕ → ℕ
   places i = if eqb i countAt then suc (count b) else (if covers (slot (count b)) sampleSize i then at x (i - slot (count b)) else at b i)
 
   pub grown-length : length (grown b x) ≡ blockSize
@@ -200,5 +140,5 @@ module _ (b x : List ℕ) (room : count b < mostSamples) (long : length x ≡ sa
   pub grown-sound : soundBlock b ≡ true → soundBlock (grown b x) ≡ true
   unfolding grown
   grown-sound s =
-      sealed-sound places (suc (count b)) refl (omega arith)
+      sealed-sound places (omega arith)
       (λ i h l. rw (ne-eqb i countAt (λ z. omega arith), covers-above (slot (count b)) sampleSize i (omega arith)) (sound-room b s i (omega arith) l))

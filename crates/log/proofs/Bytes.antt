@@ -3,8 +3,9 @@
 use mathlib.Core.Path.{_≡_}
 use mathlib.Core.Bool.{false, _&&_}
 use mathlib.Core.List.{List}
-use Prim.Native.Nat.{ℕ, zero, suc, _-_, _*_, _<_}
+use Prim.Native.Nat.{ℕ, zero, suc, _+_, _-_, _*_, _<_}
 use native.Mathlib.Omega.{arith}
+use lib.Bits.{or-lt}
 use lib.Dec.{ltb, eqb}
 use lib.ListN.{length}
 use borrow.Author.Tests.{ltb-true, ltb-false}
@@ -12,7 +13,7 @@ use Rattle.laws.specs.Tests.{if_then_else_, covers}
 use Rattle.laws.specs.Lists.{at, table, patch}
 use Rattle.laws.proofs.Tests.{case, if-elim}
 use Rattle.laws.proofs.Lists.{table-length, table-at}
-use Rattle.log.specs.Block.{blockSize, sampleSize, countAt, count, mostSamples, slot, roomEnd, checkOf, sealed, numberBytes, fresh, grown}
+use Rattle.log.specs.Block.{blockSize, sampleSize, countAt, count, mostSamples, slot, roomEnd, anyTo, summary, checkAt, checkOf, sealed, numberBytes, fresh, grown}
 use Rattle.log.specs.Log.{block, needsNew, noneLeft, put, newBlock, afterPowerUp, afterAdd, lastNumber}
 use Rattle.log.specs.Contracts.{Bytes}
 use Rattle.log.proofs.Blocks.{fresh-count}
@@ -31,11 +32,17 @@ bytes-put log i b l s = bytes-table (length log) (λ j. if covers (blockSize * i
     (λ j h. if-elim (λ n. n < 256) (covers (blockSize * i) blockSize j) (λ t. s (j - blockSize * i)) (λ t. l j))
 
 pub bytes-sealed : (f : ℕ → ℕ) → ((i : ℕ) → f i < 256) → Bytes (table blockSize (sealed f))
-unfolding sealed checkOf
+unfolding sealed checkOf summary anyTo
 bytes-sealed f small = bytes-table blockSize (sealed f)
-    (λ i h. if-elim (λ n. n < 256) (ltb i 510)
-    (λ t. if-elim (λ n. n < 256) (ltb i roomEnd) (λ u. small i) (λ u. omega arith))
-    (λ t. if-elim (λ n. n < 256) (eqb i 510) (λ u. omega arith) (λ u. omega arith)))
+    (λ i h. if-elim (λ n. n < 256) (ltb i checkAt)
+    (λ t. if-elim (λ n. n < 256) (ltb i roomEnd) (λ u. small i)
+    (λ u. if-elim (λ n. n < 256) (ltb (i - roomEnd) 3) (λ v. any (i - roomEnd) (f countAt))
+    (λ v. if-elim (λ n. n < 256) (eqb (i - roomEnd) 3) (λ w. omega arith) (λ w. omega arith))))
+    (λ t. if-elim (λ n. n < 256) (eqb i checkAt) (λ u. omega arith) (λ u. omega arith)))
+  where
+    any : (j n : ℕ) → anyTo f j n < 256
+    any j zero = omega arith
+    any j (suc n) = or-lt 8 (anyTo f j n) (f (slot n + j)) (any j n) (small (slot n + j))
 
 pub bytes-fresh : (n : ℕ) → Bytes (fresh n)
 unfolding fresh

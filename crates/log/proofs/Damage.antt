@@ -9,16 +9,16 @@ use native.Mathlib.Omega.{arith}
 use lib.Dec.{ltb, eqb}
 use lib.ListN.{length, set}
 use lib.Seq.{getD-set-same, getD-set-other}
-use borrow.Author.Tests.{lt-ltb, ltb-true, ltb-false, eqb-true, eqb-false}
+use borrow.Author.Tests.{ltb-true, ltb-false, eqb-true, eqb-false}
 use Rattle.laws.specs.Lists.{at, table, sum}
 use Rattle.laws.proofs.Tests.{case, not-both}
 use Rattle.laws.proofs.Lists.{part-length, part-at}
 use Rattle.laws.proofs.Parts.{table-same, part-set}
 use Rattle.laws.proofs.Zeros.{sum-table}
-use Rattle.log.specs.Block.{blockSize, roomEnd, first510, checkOf, sealed, soundBlock}
+use Rattle.log.specs.Block.{blockSize, checkAt, checkOf, soundBlock}
 use Rattle.log.specs.Log.{block, unsound}
 use Rattle.log.specs.Contracts.{Bytes}
-use Rattle.log.proofs.Blocks.{holds-at, sealed-same, sound-ended}
+use Rattle.log.proofs.Blocks.{sound-check}
 use Rattle.log.proofs.Logs.{sound-block, bytes-block}
 use Rattle.log.proofs.Fits.{Fit, fit}
 
@@ -49,33 +49,35 @@ module _ (b : List ℕ) (long : length b ≡ blockSize) (bytes : Bytes b) (fine 
   unfolding changed
   at-old i d = getD-set-other b j i v 0 d
 
-  end-of : (c : List ℕ) → soundBlock c ≡ true → (i : ℕ) → roomEnd ≤ i → i < blockSize → at c i ≡ sealed (at c) i
-  end-of c e i h l =
-      let z : roomEnd + (i - roomEnd) ≡ i = omega arith in
-      ap (at c) (sym z) ∙ holds-at roomEnd (blockSize - roomEnd) (λ k. sealed (at c) (roomEnd + k)) c (sound-ended c e) (i - roomEnd) (omega arith) ∙ ap (sealed (at c)) z
-
-  -- before byte 501 the sum tells it
-  told-by-sum : j < roomEnd → soundBlock changed ≡ true → ⊥
-  unfolding sealed checkOf
+  -- before byte 510 the sum tells it
+  told-by-sum : j < checkAt → soundBlock changed ≡ true → ⊥
+  unfolding checkOf
   told-by-sum h e =
-      let high : checkOf (at changed) / 256 ≡ checkOf (at b) / 256 = sym (end-of changed e 510 (omega arith) (omega arith)) ∙ at-old 510 (λ z. omega arith) ∙ end-of b fine 510 (omega arith) (omega arith) in
-      let low : checkOf (at changed) % 256 ≡ checkOf (at b) % 256 = sym (end-of changed e 511 (omega arith) (omega arith)) ∙ at-old 511 (λ z. omega arith) ∙ end-of b fine 511 (omega arith) (omega arith) in
-      let sums = sum-change 510 (first510 (at b)) (first510 (at changed)) j (omega arith)
-      (λ i k d. case (ltb i roomEnd) (λ t. rw t (at-old i d)) (λ t. rw t)) in
-      let was : first510 (at b) j ≡ at b j = rw (lt-ltb j roomEnd h) in
-      let now : first510 (at changed) j ≡ v = rw (lt-ltb j roomEnd h) at-new in
+      let (high, low) = sound-check changed e in
+      let (was-high, was-low) = sound-check b fine in
+      let same-high = at-old checkAt (λ z. omega arith) in
+      let same-low = at-old (suc checkAt) (λ z. omega arith) in
+      let sums = sum-change checkAt (at b) (at changed) j h (λ i k d. at-old i d) in
+      let now = at-new in
       let small = bytes j in
       omega (arith, new)
 
-  -- from there on it is not what it must be
-  told-by-end : roomEnd ≤ j → soundBlock changed ≡ true → ⊥
-  told-by-end h e =
-      new (sym at-new ∙ end-of changed e j h here ∙ sealed-same (at changed) (at b) (λ i k. at-old i (λ z. omega arith)) j ∙ sym (end-of b fine j h here))
+  -- the check itself is what the bytes before it say
+  told-by-check : checkAt ≤ j → soundBlock changed ≡ true → ⊥
+  unfolding checkOf
+  told-by-check h e =
+      let (high, low) = sound-check changed e in
+      let (was-high, was-low) = sound-check b fine in
+      let same : checkOf (at changed) ≡ checkOf (at b) = ap (λ l. sum l % 65536) (table-same checkAt (at changed) (at b) (λ i k. at-old i (λ z. omega arith))) in
+      case (eqb j checkAt)
+      (λ t. let z = eqb-true j checkAt t in new (sym at-new ∙ ap (at changed) z ∙ high ∙ ap (λ n. n / 256) same ∙ sym was-high ∙ ap (at b) (sym z)))
+      (λ t. let d = eqb-false j checkAt t in let z : j ≡ suc checkAt = omega (arith, d) in
+      new (sym at-new ∙ ap (at changed) z ∙ low ∙ ap (λ n. n % 256) same ∙ sym was-low ∙ ap (at b) (sym z)))
 
   pub block-damaged : soundBlock (set b j v) ≡ false
   unfolding changed
   block-damaged = case (soundBlock (set b j v))
-      (λ t. absurd (case (ltb j roomEnd) (λ q. told-by-sum (ltb-true j roomEnd q) t) (λ q. told-by-end (ltb-false j roomEnd q) t)))
+      (λ t. absurd (case (ltb j checkAt) (λ q. told-by-sum (ltb-true j checkAt q) t) (λ q. told-by-check (ltb-false j checkAt q) t)))
       (λ t. t)
 
 -- a log

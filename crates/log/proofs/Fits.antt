@@ -1,7 +1,7 @@
 -- A log that is not refused 15, and that it stays so with the next block put after its used ones, or with its last block put anew.
 -- Assumes nothing.
 use mathlib.Core.Path.{_≡_, refl, ap, _∙_}
-use mathlib.Core.Bool.{true, false, not, _||_}
+use mathlib.Core.Bool.{true, false, not}
 use mathlib.Core.List.{List, _++_}
 use Prim.Native.Nat.{ℕ, zero, suc, _%_, _≤_, _<_}
 use native.Mathlib.Omega.{arith}
@@ -10,7 +10,7 @@ use lib.ListN.{length}
 use borrow.Author.Tests.{eqb-true, ltb-false, le-ltb, eq-eqb, not-false}
 use Rattle.laws.proofs.Tests.{and-both, or-left, or-right}
 use Rattle.log.specs.Block.{blockSize, number, samplesIn, soundBlock}
-use Rattle.log.specs.Log.{blocks, block, follows, sound, samples, lastNumber, put, unsound}
+use Rattle.log.specs.Log.{blocks, block, follows, sound, samples, lastNumber, put, misfit, unsound}
 use Rattle.log.proofs.Logs.{sound-same, samples-same, put-length, put-here, put-other}
 
 -- ---- 15
@@ -21,14 +21,17 @@ pub record Fit (log : List ℕ) (used : ℕ) : Type 0 where
   pub fits : used ≤ blocks log
   pub good : sound log used ≡ true
 
+-- memory that has the used blocks
+pub fitting : (log : List ℕ) (used : ℕ) → misfit log used ≡ false → (length log % blockSize ≡ 0) × (used ≤ blocks log)
+fitting log used e = (
+  eqb-true (length log % blockSize) 0 (not-false (eqb (length log % blockSize) 0) (or-left (not (eqb (length log % blockSize) 0)) (ltb (blocks log) used) e)),
+  ltb-false (blocks log) used (or-right (not (eqb (length log % blockSize) 0)) (ltb (blocks log) used) e),
+)
+
 pub fit : (log : List ℕ) (used : ℕ) → unsound log used ≡ false → Fit log used
 fit log used e =
-    let rest = or-right (not (eqb (length log % blockSize) 0)) (ltb (blocks log) used || not (sound log used)) e in
-    record {
-      whole = eqb-true (length log % blockSize) 0 (not-false (eqb (length log % blockSize) 0) (or-left (not (eqb (length log % blockSize) 0)) (ltb (blocks log) used || not (sound log used)) e));
-      fits = ltb-false (blocks log) used (or-left (ltb (blocks log) used) (not (sound log used)) rest);
-      good = not-false (sound log used) (or-right (ltb (blocks log) used) (not (sound log used)) rest);
-    }
+    let (whole, fits) = fitting log used (or-left (misfit log used) (not (sound log used)) e) in
+    record { whole = whole; fits = fits; good = not-false (sound log used) (or-right (misfit log used) (not (sound log used)) e) }
 
 pub fit-sound : {log : List ℕ} {used : ℕ} → Fit log used → unsound log used ≡ false
 fit-sound {log} {used} f = rw (f .whole, le-ltb (blocks log) used (f .fits), f .good)

@@ -1,3 +1,4 @@
+pub mod Sealed
 pub mod Blocks
 pub mod Logs
 pub mod Fits
@@ -9,3 +10,8 @@ pub mod Bytes
 pub mod Damage
 pub mod Kept
 pub mod Refusals
+pub mod Summaries
+pub mod Search
+pub mod Least
+pub mod Answers
+pub mod Searched

@@ -1,5 +1,5 @@
--- Document 02, Ask 1: each refusal of the calls on a log is given exactly when the ask says so, and in its order; what a log may be; and
--- the ask's own example.
+-- Document 02, Ask 1: each refusal of the calls on a log is given exactly when the ask says so, and in its order; what a log may be;
+-- and the ask's own example, before and after Ask 9.
 -- Assumes nothing.
 use mathlib.Core.Path.{_≡_, refl, _∙_}
 use mathlib.Core.Logic.{_↔_}
@@ -13,7 +13,7 @@ use Rattle.laws.specs.Tests.{if_then_else_, Row, noneOf}
 use Rattle.laws.specs.Lists.{at, table, sum}
 use Rattle.laws.proofs.Rows.{first-exact, first-none}
 use Rattle.laws.proofs.Parts.{part-same}
-use Rattle.log.specs.Block.{blockSize, checkOf, sealed, fresh}
+use Rattle.log.specs.Block.{blockSize, anyTo, summary, checkOf, sealed, holds, soundBlock, fresh}
 use Rattle.log.specs.Log.{block, samples, total, needsNew, afterPowerUp, wrongSample, unsound, noneLeft, addRows, powerUpRows, sampleRows}
 use Rattle.log.specs.Contracts.{addRefusal, powerUpRefusal, sampleRefusal}
 use Rattle.log.proofs.Blocks.{fresh-length}
@@ -90,12 +90,20 @@ module _ (log t : List ℕ) (used : ℕ) (long : length t ≡ length log) (fits 
   pub unused-free : (unsound t used ≡ unsound log used) × (samples t used ≡ samples log used)
   unused-free = (rw (long, sound-same log t used same), samples-same log t used same)
 
--- ---- "Block 1 with no samples has 1 in byte 3, 1 in byte 511 and zeros elsewhere"
+-- ---- "Block 1 with no samples has 1 in byte 3 .. and zeros elsewhere"; "(Ask 1's empty block: 504 is 1, 511 is 2)"
 
-pub first-block : fresh 1 ≡ table blockSize (λ i. if eqb i 3 || eqb i 511 then 1 else 0)
-unfolding fresh sealed checkOf sum table
+abbrev pub firstOpened : ℕ → ℕ
+firstOpened i = if eqb i 3 || eqb i 504 then 1 else (if eqb i 511 then 2 else 0)
+
+pub first-block : fresh 1 ≡ table blockSize firstOpened
+unfolding fresh sealed checkOf summary anyTo sum table
 first-block = refl
 
 -- and it is what a power-up leaves of the first block of any memory
-pub first-opened : (log : List ℕ) → blockSize ≤ length log → block (afterPowerUp log 0) 0 ≡ table blockSize (λ i. if eqb i 3 || eqb i 511 then 1 else 0)
+pub first-opened : (log : List ℕ) → blockSize ≤ length log → block (afterPowerUp log 0) 0 ≡ table blockSize firstOpened
 first-opened log h = put-here log 0 (fresh 1) (fresh-length 1) (omega arith) ∙ first-block
+
+-- the one that Ask 1 had, without a summary, remains sound
+pub old-block : soundBlock (table blockSize (λ i. if eqb i 3 || eqb i 511 then 1 else 0)) ≡ true
+unfolding soundBlock holds checkOf summary anyTo sum table
+old-block = refl

@@ -1,6 +1,6 @@
--- Document 02, Ask 1: a block of a log, 512 bytes.
+-- Document 02, Ask 1 and Ask 9: a block of a log, 512 bytes.
 -- Assumes nothing.
-use Rattle.laws.specs.Words.{ℕ, zero, suc, _+_, _-_, _*_, _/_, _%_, Bool, true, _&&_, List, [], _∷_, _++_, eqb, ltb, leb, if_then_else_, covers, at, table, part, sum}
+use Rattle.laws.specs.Words.{ℕ, zero, suc, _+_, _-_, _*_, _/_, _%_, Bool, true, _&&_, _||_, List, [], _∷_, _++_, bitOr, eqb, ltb, leb, if_then_else_, covers, at, table, part, sum}
 
 -- ---- its fields
 
@@ -45,29 +45,60 @@ samplesTo b (suc k) = samplesTo b k ++ (part (slot k) sampleSize b ∷ [])
 abbrev pub samplesIn : List ℕ → List (List ℕ)
 samplesIn b = samplesTo b (count b)
 
--- ---- its end, bytes 501 to 511
+-- ---- its summary, bytes 501 to 509 (Ask 9)
 
--- the first 510 bytes of the block that has f before byte 501; in 501 to 509, the place of a summary, this ask has zeros: "501 to 509
--- zero"
-abbrev pub first510 : (ℕ → ℕ) → ℕ → ℕ
-first510 f i = if ltb i roomEnd then f i else 0
+-- the status byte j, 0 to 2, of the block's first k samples: their OR
+unfoldable pub anyTo : (ℕ → ℕ) → ℕ → ℕ → ℕ
+anyTo f j zero = 0
+anyTo f j (suc k) = bitOr (anyTo f j k) (f (slot k + j))
+
+-- the mark of a summary
+abbrev pub markAt : ℕ
+markAt = 504
+
+-- "bytes 501 to 503 are the OR of the three status bytes over their samples and byte 504 is 1"; after them zeros
+unfoldable pub summary : (ℕ → ℕ) → ℕ → ℕ
+summary f j = if ltb j 3 then anyTo f j (f countAt) else (if eqb j 3 then 1 else 0)
+
+-- ---- its check, bytes 510 and 511
+
+abbrev pub checkAt : ℕ
+checkAt = 510
 
 -- "the sum of the first 510 bytes, low sixteen bits"
 unfoldable pub checkOf : (ℕ → ℕ) → ℕ
-checkOf f = sum (table 510 (first510 f)) % 65536
+checkOf f = sum (table checkAt f) % 65536
+
+-- ---- its end, bytes 501 to 511
+
+-- the first 510 bytes of the block that has f before byte 501
+abbrev pub first510 : (ℕ → ℕ) → ℕ → ℕ
+first510 f i = if ltb i roomEnd then f i else summary f (i - roomEnd)
 
 -- all its places: "510 and 511 the sum .., high byte first"
 unfoldable pub sealed : (ℕ → ℕ) → ℕ → ℕ
-sealed f i = if ltb i 510 then first510 f i else (if eqb i 510 then checkOf f / 256 else checkOf f % 256)
+sealed f i =
+    if ltb i checkAt then first510 f i
+    else (if eqb i checkAt then checkOf (first510 f) / 256 else checkOf (first510 f) % 256)
 
 -- the n places from a on hold f 0 to f (n - 1)
 unfoldable pub holds : ℕ → ℕ → (ℕ → ℕ) → List ℕ → Bool
 holds a zero f b = true
 holds a (suc n) f b = holds a n f b && eqb (at b (a + n)) (f n)
 
+abbrev pub hasSummary : List ℕ → Bool
+hasSummary b = holds roomEnd 9 (summary (at b)) b
+
+-- "Blocks with 501 to 504 all zero remain sound .. Any other content of 501 to 509 is unsound"
+abbrev pub summed : List ℕ → Bool
+summed b = hasSummary b || holds roomEnd 9 (λ j. 0) b
+
+abbrev pub checked : List ℕ → Bool
+checked b = eqb (at b checkAt) (checkOf (at b) / 256) && eqb (at b (suc checkAt)) (checkOf (at b) % 256)
+
 -- bytes 501 to 511 are as they must be
 abbrev pub ended : List ℕ → Bool
-ended b = holds roomEnd (blockSize - roomEnd) (λ j. sealed (at b) (roomEnd + j)) b
+ended b = summed b && checked b
 
 -- ---- sound by itself
 

@@ -1,3 +1,4 @@
 pub mod Block
 pub mod Log
 pub mod Contracts
+pub mod Search

@@ -75,9 +75,13 @@ usedAfter log used = if needsNew log used then suc used else used
 abbrev pub wrongSample : List ℕ → Bool
 wrongSample x = not (eqb (length x) sampleSize)
 
--- 15: "memory that isn't whole blocks, a used number that is too large, or an unsound log"
+-- "memory that isn't whole blocks, a used number that is too large"
+abbrev pub misfit : List ℕ → ℕ → Bool
+misfit log used = not (eqb (length log % blockSize) 0) || ltb (blocks log) used
+
+-- 15: that, "or an unsound log"
 abbrev pub unsound : List ℕ → ℕ → Bool
-unsound log used = not (eqb (length log % blockSize) 0) || (ltb (blocks log) used || not (sound log used))
+unsound log used = misfit log used || not (sound log used)
 
 -- 14: "none is unused or the number is 4294967295"
 abbrev pub noneLeft : List ℕ → ℕ → Bool

@@ -7,6 +7,7 @@ use script::lines;
 use script::memory;
 use script::numbers;
 use script::outcomes;
+use searching::First;
 
 // The most bytes that the log may have, and the most times that a sample is added; the most bytes of a sample or a put.
 pub const MOST: usize = 4608;
@@ -141,6 +142,24 @@ pub fn sample(head: &[u8], log: &[u8], used: u64, found: &mut [u8]) -> usize {
     let place = finding::sample_place(log, used, n.value);
     let view = finding::sample_view(log, used, n.value);
     placed(found, place, view, log)
+}
+
+// ---- first
+
+// `refused 17`, `none`, or `position 5`.
+pub fn first(head: &[u8], log: &[u8], used: u64, found: &mut [u8]) -> usize {
+    let n = arguments::number_of(head);
+    if !n.is_read {
+        return 0;
+    }
+    match searching::first_with(log, used, n.value) {
+        First::At(position) => {
+            let at = outcomes::append_all(found, 0, b"position ");
+            append_number(found, at, position)
+        }
+        First::Never => outcomes::append_all(found, 0, b"none"),
+        First::Refused(refusal) => outcomes::refused(found, refusal, false),
+    }
 }
 
 // ---- look: no call of the log

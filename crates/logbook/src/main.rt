@@ -9,6 +9,7 @@
 //   adds N HH HH .. => OUTCOME    the sample N times, and the outcome of the last
 //   power-up => OUTCOME           as of an add
 //   sample POSITION => OUTCOME    `refused 17`, or `at 5: 0A FF ..`: where the sample starts in the log, and its bytes
+//   first BIT => OUTCOME          `refused 17`, `none`, or `position 5`: of the first sample that has the status bit
 //   look PLACE COUNT => OUTCOME   `00 11`: bytes of the log, at least one; `all 00` if they are sixteen or more and all the same
 //
 // The log has at most 4608 bytes, nine blocks, a sample or a put 64, the script 65536; a sample is added at most 4608 times. ` AND CHANGED BYTES`
@@ -36,6 +37,9 @@ fn reading(head: &[u8], log: &[u8], used: u64, found: &mut [u8]) -> usize {
     let name = lines::word(head, 0);
     if check::same(name, b"sample") {
         return calls::sample(head, log, used, found);
+    }
+    if check::same(name, b"first") {
+        return calls::first(head, log, used, found);
     }
     if check::same(name, b"look") {
         return calls::look(head, log, found);

@@ -1,6 +1,6 @@
 // The calls that change a log of samples: a sample added, a power-up.
 // Proved: for every memory, used number and sample, the refusal, the used number after it and the bytes left are those of document
-// 02's Ask 1 (log/specs).
+// 02's Ask 1 and Ask 9 (log/specs).
 ghost use mathlib.Core.Path.{_≡_};
 ghost use Prim.Native.Nat.{_+_, _*_, _≤_, _<_};
 ghost use lib.ListN.{length};

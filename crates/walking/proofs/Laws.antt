@@ -4,16 +4,16 @@ use mathlib.Core.Path.{_≡_, refl, sym, _∙_}
 use mathlib.Core.Logic.{_≢_}
 use mathlib.Core.Bool.{Bool, true, false, not, _&&_, _||_, true≢false}
 use mathlib.Core.List.{List}
-use Prim.Native.Nat.{ℕ, zero, suc, _+_, _*_, _%_, _≤_, _<_}
+use Prim.Native.Nat.{ℕ, zero, suc, _+_, _*_, _≤_, _<_}
 use native.Mathlib.Omega.{arith}
 use lib.Dec.{eqb}
 use lib.ListN.{length}
-use borrow.Author.Tests.{ne-eqb, eqb-true, not-true, lt-ltb, le-ltb}
+use borrow.Author.Tests.{ne-eqb, eqb-true, not-true}
 use Rattle.laws.proofs.Tests.{case, and-left, and-right, and-both, not-both}
 use Rattle.log.specs.Block.{blockSize, number, soundBlock}
-use Rattle.log.specs.Log.{blocks, block, follows, sound, lastNumber, unsound}
+use Rattle.log.specs.Log.{block, follows, sound, lastNumber, misfit, unsound}
 use Rattle.log.proofs.Logs.{sound-block, sound-follows}
-use Rattle.log.proofs.Fits.{fit}
+use Rattle.log.proofs.Fits.{fitting, fit}
 
 -- ---- a turn of the walk: block i after i sound ones, of which the last has the number `last`
 
@@ -62,14 +62,14 @@ goes-on log i s b f = and-both s (and-both b f)
 -- ---- 15
 
 module _ (log : List ℕ) (used : ℕ) where
-  pub uneven : length log % blockSize ≢ 0 → true ≡ unsound log used
-  uneven d = rw (ne-eqb (length log % blockSize) 0 d)
+  pub misfit-unsound : misfit log used ≡ true → true ≡ unsound log used
+  misfit-unsound e = rw e
 
-  pub too-many : length log % blockSize ≡ 0 → blocks log < used → true ≡ unsound log used
-  too-many e h = rw (e, lt-ltb (blocks log) used h)
+  pub by-walk : misfit log used ≡ false → (t : Bool) → t ≡ sound log used → not t ≡ unsound log used
+  by-walk e t s = rw (e, ← s)
 
-  pub by-walk : length log % blockSize ≡ 0 → used ≤ blocks log → (t : Bool) → t ≡ sound log used → not t ≡ unsound log used
-  by-walk e h t s = rw (e, le-ltb (blocks log) used h, ← s)
+  pub fits-blocks : misfit log used ≡ false → blockSize * used ≤ length log
+  fits-blocks e = let h = fitting log used e .1 in omega arith
 
   pub fits-in : unsound log used ≡ false → (blockSize * used ≤ length log) × (sound log used ≡ true)
   fits-in e = let f = fit log used e in let h = f .fits in (omega arith, f .good)

@@ -1,12 +1,11 @@
 // The walk over the used blocks of a log: whether each is sound, and their numbers rise by one.
-// Proved: refusal 15 is given exactly when document 02's Ask 1 says so (log/specs). Of a sound log every byte of every used block is
-// looked at.
+// Proved: refusal 15 of an add, a power-up and a reading is given exactly when document 02 says so (Ask 1, Ask 9; log/specs).
 ghost use mathlib.Core.Path.{_≡_};
 ghost use mathlib.Core.Bool.{true, false};
 ghost use Prim.Native.Nat.{_+_, _*_, _≤_};
 ghost use lib.ListN.{length};
 ghost use Rattle.log.specs.Block.{blockSize};
-ghost use Rattle.log.specs.Log.{block, sound, unsound};
+ghost use Rattle.log.specs.Log.{block, sound, misfit, unsound};
 use blocks::BLOCK_LEN;
 
 // Block `i`.
@@ -41,14 +40,18 @@ fn is_rising(log: &[u8], used: usize) -> bool
     true
 }
 
-// Whether the log is refused 15.
+// Whether the memory isn't whole blocks, or has fewer than `used`.
+pub fn is_misfit(log: &[u8], used: u64) -> bool
+    ensures { λ r. ⌜ r ≡ misfit (now (log .entry)) used ⌝ }
+{
+    (log.len() % BLOCK_LEN != 0) | (((log.len() / BLOCK_LEN) as u64) < used)
+}
+
+// Whether an add, a power-up or a reading refuses the log, 15.
 pub fn is_unsound(log: &[u8], used: u64) -> bool
     ensures { λ r. ⌜ (r ≡ unsound (now (log .entry)) used) × (r ≡ false → used ≤ 4294967296) ⌝ }
 {
-    if log.len() % BLOCK_LEN != 0 {
-        return true;
-    }
-    if ((log.len() / BLOCK_LEN) as u64) < used {
+    if is_misfit(log, used) {
         return true;
     }
     if is_rising(log, used as usize) {

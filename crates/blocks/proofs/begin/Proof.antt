@@ -2,7 +2,7 @@
 -- Assumes nothing.
 use mathlib.Core.Path.{_∙_}
 use borrow.Author.Needs.{needs}
-use Rattle.blocks.proofs.Laws.{begin-done}
+use Rattle.blocks.proofs.Laws.{begin-few, begin-done}
 use Rattle.blocks.proofs.begin.Statement.{statement}
 use Rattle.blocks.proofs.begin.Tie as tie
 
@@ -13,7 +13,11 @@ put-number-requires : tie.Need-put-number-requires
 put-number-requires c κs = search needs
 
 seal-requires : tie.Need-seal-requires
-seal-requires c κs = search needs
+seal-requires c κs =
+    let p = c .before .before .before in
+    let f = p .before .before .before .before in
+    let x = f .before .before .before in
+    (search needs, rw (p .put-number .ensures) (begin-few (x .args .block .now) (x .pre) (x .args .n) (f .fill .last .0) (f .fill .ensures)))
 
 same-length : tie.Need-same-length
 same-length c = search needs

@@ -2,9 +2,11 @@
 -- Assumes nothing.
 use mathlib.Core.Path.{_∙_}
 use Prim.Native.Nat.{ℕ, _+_}
+use native.Mathlib.Omega.{arith}
 use lib.ListN.{length-set}
 use borrow.Author.Needs.{needs}
 use Rattle.laws.specs.Lists.{at}
+use Rattle.laws.proofs.Lists.{at-set}
 use Rattle.blocks.proofs.Laws.{grow-done}
 use Rattle.blocks.proofs.grow.Statement.{statement}
 use Rattle.blocks.proofs.grow.Tie as tie
@@ -34,7 +36,8 @@ seal-requires : tie.Need-seal-requires
 seal-requires c κs =
     let k = c .before .before .before .copy in
     let n : ℕ = at (c .before .before .before .before .before .before .before .before .args .block .now) 4 + 1 in
-    length-set (k .last .0) 4 n ∙ k .kept .0 ∙ c .before .before .before .before .before .before .before .before .pre .0
+    let x = c .before .before .before .before .before .before .before .before in
+    (length-set (k .last .0) 4 n ∙ k .kept .0 ∙ x .pre .0, rw (at-set (k .last .0) 4 n 4 (omega (arith, k .kept .0, x .pre .0))) (omega (arith, x .pre .2)))
 
 same-length : tie.Need-same-length
 same-length c =

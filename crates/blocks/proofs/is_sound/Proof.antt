@@ -1,9 +1,7 @@
 -- `blocks::is_sound` meets its contract.
 -- Assumes nothing.
 use mathlib.Core.Path.{sym, _∙_}
-use native.Mathlib.Omega.{arith}
 use borrow.Author.Needs.{needs}
-use Rattle.log.proofs.Blocks.{check-used}
 use Rattle.blocks.proofs.Laws.{sound-many, sound-roomy, sound-end}
 use Rattle.blocks.proofs.is_sound.Statement.{statement}
 use Rattle.blocks.proofs.is_sound.Tie as tie
@@ -29,19 +27,16 @@ sub-is-blank c = search needs
 is-blank-requires : tie.Need-is-blank-requires
 is-blank-requires c κs = search needs
 
-sum16-requires : tie.Need-sum16-requires
-sum16-requires c κs = search needs
+is-summed-requires : tie.Need-is-summed-requires
+is-summed-requires c κs = search needs
 
-is-sealed-requires : tie.Need-is-sealed-requires
-is-sealed-requires c κs =
-    let x = c .before .before .before .before .before .before in
-    let k = c .before .before .before .if1 .left in
-    (x .pre, c .sum16 .ensures ∙ sym (check-used (x .args .block .now) _ (omega arith) (omega arith) (sym (c .before .before .is-blank .ensures) ∙ c .before .if2 .taken)))
+is-checked-requires : tie.Need-is-checked-requires
+is-checked-requires c κs = search needs
 
 returns-2 : tie.Need-returns-2
 returns-2 c =
     let t = c .before .before in
-    c .is-sealed .ensures ∙ sound-end _ (t .before .before .if1 .left) (sym (t .before .is-blank .ensures) ∙ t .if2 .taken)
+    rw (c .before .is-summed .ensures, c .is-checked .ensures) (sound-end _ (t .before .before .if1 .left) (sym (t .before .is-blank .ensures) ∙ t .if2 .taken))
 
 returns-3 : tie.Need-returns-3
 returns-3 c =
@@ -58,7 +53,7 @@ is-sound-spec =
     add-end
     sub-is-blank
     is-blank-requires
-    sum16-requires
-    is-sealed-requires
+    is-summed-requires
+    is-checked-requires
     returns-2
     returns-3)

@@ -1,0 +1,127 @@
+-- Document 02, Ask 9: what the question says of a sound log. The sample that reading hands back at the answered position has the bit,
+-- and none before it has; and what an add, a power-up and any series of calls make of the answer.
+-- Assumes nothing.
+use mathlib.Core.Path.{_≡_, sym, ap, _∙_}
+use mathlib.Core.Bool.{true, false}
+use mathlib.Core.List.{List, [], _∷_, _++_}
+use mathlib.Core.Option.{Option, none, some}
+use Prim.Native.Nat.{ℕ, suc, _+_, _-_, _≤_, _<_}
+use native.Mathlib.Omega.{arith}
+use lib.Dec.{ltb}
+use lib.ListN.{length, getD}
+use denote.Ref.{RefT, now}
+use borrow.Author.Tests.{le-ltb, lt-leb, ltb-false}
+use Rattle.laws.specs.Tests.{if_then_else_, firstOf}
+use Rattle.laws.specs.Lists.{part}
+use Rattle.laws.proofs.Tests.{case}
+use Rattle.log.specs.Block.{sampleSize}
+use Rattle.log.specs.Log.{blocks, samples, total, placeOf, afterPowerUp, afterAdd, usedAfter}
+use Rattle.log.specs.Contracts.{addRefusal, powerUpRefusal, sampleRefusal, Added, Opened, Placed, Shown, Bytes}
+use Rattle.log.specs.Search.{lit, orElse, firstIn, refused, given, firstTold}
+use Rattle.log.proofs.Fits.{Fit, fit-sound}
+use Rattle.log.proofs.Calls.{add-taken, add-sound, add-samples, power-up-taken, power-up-sound, power-up-samples}
+use Rattle.log.proofs.Positions.{sample-lies}
+use Rattle.log.proofs.Kept.{Known}
+use Rattle.log.proofs.Search.{first-is, first-only, first-append, search-reads}
+use Rattle.log.proofs.Least.{sound-crowded, first-given}
+
+-- ---- a sound log
+
+module _ (log : List ℕ) (used k : ℕ) (was : Fit log used) where
+  -- "on a sound log, summaries included, that equals reading every sample"
+  pub first-reads : firstTold log used k ≡ (if ltb 23 k then refused 17 else given (firstIn k (samples log used)))
+  first-reads = case (ltb 23 k)
+      (λ t. rw (was .whole, le-ltb (blocks log) used (was .fits), sound-crowded log used (was .good), t))
+      (λ t. let h = ltb-false 23 k t in
+      rw (was .whole, le-ltb (blocks log) used (was .fits), sound-crowded log used (was .good), t)
+      (ap given (search-reads log used k (omega arith) (was .fits) (was .good))))
+
+  -- where an answer is given
+  pub first-given-reads : {r : Option ℕ} → firstTold log used k ≡ given r → firstIn k (samples log used) ≡ r
+  first-given-reads e =
+      let (shaped, small, is-it) = first-given log used k e in
+      sym (search-reads log used k (omega arith) (was .fits) (was .good)) ∙ is-it
+
+  -- so the sample at the position that is answered has the bit, and none before it has
+  pub first-there : (i : ℕ) → firstTold log used k ≡ given (some i)
+      → (i < total log used) × (lit k (getD (samples log used) i []) ≡ true) × ((j : ℕ) → j < i → lit k (getD (samples log used) j []) ≡ false)
+  first-there i e = rw (first-given-reads e) at (first-is k (samples log used))
+
+  -- and where no sample has it, none is answered
+  pub first-never : k < 24 → ((j : ℕ) → j < total log used → lit k (getD (samples log used) j []) ≡ false) → firstTold log used k ≡ given none
+  first-never small lacks =
+      first-reads ∙ rw (le-ltb 23 k (omega arith)) (ap given (first-only k (samples log used) (firstIn k (samples log used)) none (first-is k (samples log used)) lacks))
+
+  -- a reading at that position, or at one before it, is accepted
+  readable : (i : ℕ) → firstTold log used k ≡ given (some i) → (j : ℕ) → j ≤ i → (sampleRefusal log used j ≡ 0) × (j < total log used)
+  readable i e j h =
+      let l = first-there i e .0 in
+      ((λ i'. firstOf ((15, fit-sound was i') ∷ (17, lt-leb (total log used) j (omega arith) i') ∷ [])), omega arith)
+
+-- the same of the reading call: what it hands back at the position that is answered, and at those before it
+module _ (log : RefT (List ℕ)) (used k i : ℕ) (was : Fit (now log) used) (e : firstTold (now log) used k ≡ given (some i)) where
+  handed : (j : ℕ) → j ≤ i → {r : RefT (List ℕ)} → Shown log used j r → now r ≡ getD (samples (now log) used) j []
+  handed j h d = d .bytes-are ∙ rw (readable (now log) used k was i e j h .0)
+
+  pub first-read : {r : RefT (List ℕ)} → Shown log used i r → lit k (now r) ≡ true
+  first-read d = ap (lit k) (handed i (omega arith) d) ∙ first-there (now log) used k was i e .1
+
+  pub first-before : (j : ℕ) → j < i → {r : RefT (List ℕ)} → Shown log used j r → lit k (now r) ≡ false
+  first-before j h d = ap (lit k) (handed j (omega arith) d) ∙ first-there (now log) used k was i e .2 j h
+
+-- and of the place that C is told: the 31 bytes there
+module _ (log : List ℕ) (used k i : ℕ) (was : Fit log used) (e : firstTold log used k ≡ given (some i)) where
+  placed : (j : ℕ) → j ≤ i → {r s : ℕ} → Placed log used j r s → (r ≡ 0) × (part s sampleSize log ≡ getD (samples log used) j [])
+  placed j h {r} {s} d =
+      let (z, l) = readable log used k was i e j h in
+      let there : s ≡ placeOf log used j = d .start-is ∙ rw z in
+      (d .refusal-is ∙ z, rw there (sample-lies log used j (was .fits) (was .good) l .1))
+
+  pub first-place : {r s : ℕ} → Placed log used i r s → (r ≡ 0) × (lit k (part s sampleSize log) ≡ true)
+  first-place d = let (z, p) = placed i (omega arith) d in (z, ap (lit k) p ∙ first-there log used k was i e .1)
+
+  pub first-place-before : (j : ℕ) → j < i → {r s : ℕ} → Placed log used j r s → (r ≡ 0) × (lit k (part s sampleSize log) ≡ false)
+  first-place-before j h d = let (z, p) = placed j (omega arith) d in (z, ap (lit k) p ∙ first-there log used k was i e .2 j h)
+
+-- ---- what the calls make of the answer
+
+-- with one sample more it changes only from none to that sample's position
+first-more : (k : ℕ) (xs : List (List ℕ)) (x : List ℕ) → firstIn k (xs ++ (x ∷ [])) ≡ orElse (firstIn k xs) (if lit k x then some (length xs) else none)
+unfolding firstIn
+first-more k xs x = first-append k xs (x ∷ []) ∙ ap (orElse (firstIn k xs)) (case (lit k x)
+    (λ t. let z : length xs + 0 ≡ length xs = omega arith in rw (t, z))
+    (λ t. rw t))
+
+module _ {log x u : List ℕ} {used r a : ℕ} (k : ℕ) (bytes : Bytes log) (d : Added log used x r a u) (taken : r ≡ 0) where
+  accepted : addRefusal log used x ≡ 0
+  accepted = sym (d .refusal-is) ∙ taken
+
+  -- from the answer before to the answer after
+  first-added : {p : Option ℕ} → firstTold log used k ≡ given p → firstTold u a k ≡ given (orElse p (if lit k x then some (total log used) else none))
+  first-added {p} e =
+      let (long, was, free) = add-taken log used x accepted in
+      let small = first-given log used k e .1 in
+      rw (d .log-is, d .used-is, accepted)
+      (first-reads (afterAdd log used x) (usedAfter log used) k (add-sound log used x accepted bytes)
+      ∙ rw (le-ltb 23 k small) (ap given (ap (firstIn k) (add-samples log used x accepted bytes) ∙ first-more k (samples log used) x
+      ∙ ap (λ q. orElse q (if lit k x then some (total log used) else none)) (first-given-reads log used k was e))))
+
+  pub first-stays : (i : ℕ) → firstTold log used k ≡ given (some i) → firstTold u a k ≡ given (some i)
+  first-stays i e = first-added e
+
+  pub first-comes : firstTold log used k ≡ given none → firstTold u a k ≡ given (if lit k x then some (total log used) else none)
+  first-comes e = first-added e
+
+-- a power-up changes no answer
+pub first-powered : {log u : List ℕ} {used r a : ℕ} (k : ℕ) → Bytes log → Opened log used r a u → r ≡ 0 → firstTold u a k ≡ firstTold log used k
+first-powered {log} {u} {used} {r} {a} k bytes d taken =
+    let accepted : powerUpRefusal log used ≡ 0 = sym (d .refusal-is) ∙ taken in
+    let (was, free) = power-up-taken log used accepted in
+    rw (d .log-is, d .used-is, accepted)
+    (first-reads (afterPowerUp log used) (suc used) k (power-up-sound log used bytes was free)
+    ∙ ap (λ xs. if ltb 23 k then refused 17 else given (firstIn k xs)) (power-up-samples log used bytes was free)
+    ∙ sym (first-reads log used k was))
+
+-- over any series of calls on a log from its beginning: the first of the accepted samples that has the bit
+pub kept-first : {xs : List (List ℕ)} {t : List ℕ} {n : ℕ} → Known xs t n → (k : ℕ) → firstTold t n k ≡ (if ltb 23 k then refused 17 else given (firstIn k xs))
+kept-first {xs} {t} {n} known k = first-reads t n k (known .fit) ∙ ap (λ l. if ltb 23 k then refused 17 else given (firstIn k l)) (known .samples-are)

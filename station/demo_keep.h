@@ -1,0 +1,9 @@
+/* demo_keep.h: what `zikhrodan demo --keep` leaves. */
+#ifndef DEMO_KEEP_H
+#define DEMO_KEEP_H
+
+/* Leaves the image, the day's rows, a module that is reset to the image, and a log of the day in a folder, which is made if it is
+ * not there. Where one of the files is there, none is made. Gives the exit status, with what was done or went wrong said. */
+int demo_keep(const char *folder);
+
+#endif

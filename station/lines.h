@@ -1,0 +1,34 @@
+/* lines.h: the 24 status lines of a sample, by the numbers that the library has for their bits: 8 times the status byte, 0 to 2,
+ * plus the bit, 0 the lowest. Number 2 is Rx3 loss of signal, "rx3". */
+#ifndef LINES_H
+#define LINES_H
+
+#include "names.h"
+
+#include <stdbool.h>
+
+enum { LINES = 24, LINE_WORD_ROOM = 12 };
+
+/* A line's number from its word, its name, in any case of letters, or a number: whether there is such a line the library says.
+ * False, with an error said, if the word is none of these. */
+bool line_in(const char *word, uint64_t *bit);
+
+/* Its word for a command line, such as "rx3" or "tx1-fault"; gives `word`. */
+char *line_word(unsigned bit, char *word, size_t room);
+
+/* Its name, such as "Rx3 loss of signal", as flag_name has it; NAME_ROOM is room enough. */
+char *line_name(unsigned bit, char *name, size_t room);
+
+/* Whether a sample has its bit. */
+static inline bool line_of(const uint8_t *sample, unsigned bit)
+{
+    return sample[bit / 8] >> bit % 8 & 1;
+}
+
+/* The lines in the order in which flags are shown, each byte from bit 7 down: which one comes at a place, 0 to 23. */
+static inline unsigned line_shown(unsigned place)
+{
+    return place / 8 * 8 + 7 - place % 8;
+}
+
+#endif

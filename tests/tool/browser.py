@@ -1,0 +1,113 @@
+"""browser.py: Debian's Chromium, without a window and without a network, on a page in a file: the page as it has read it, a
+picture of it, and its printed form.
+
+It is told that no name has an address, and to send what it asks for to a port of this machine that nobody listens at, or to one
+where the test does.
+"""
+import re
+import socket
+import subprocess
+import tempfile
+import threading
+from html.parser import HTMLParser
+from pathlib import Path
+
+from pictures import Picture
+
+WORDS = ["chromium", "--headless=new", "--no-sandbox", "--disable-gpu", "--hide-scrollbars", "--no-first-run",
+         "--disable-extensions", "--disable-background-networking", "--force-device-scale-factor=1",
+         "--host-resolver-rules=MAP * ~NOTFOUND, EXCLUDE 127.0.0.1", "--proxy-bypass-list=<-loopback>"]
+NOBODY_LISTENS = 9
+PATIENCE = 120
+
+
+def browse(page, *words, port=NOBODY_LISTENS):
+    """Opens a page: what is printed."""
+    with tempfile.TemporaryDirectory(prefix="browser") as profile:
+        own = [f"--user-data-dir={profile}", f"--proxy-server=127.0.0.1:{port}", *words, Path(page).resolve().as_uri()]
+        done = subprocess.run(WORDS + own, stdin=subprocess.DEVNULL, stdout=subprocess.PIPE, stderr=subprocess.DEVNULL,
+                              timeout=PATIENCE, check=True)
+    return done.stdout.decode("utf-8")
+
+
+def picture(page, width, height):
+    with tempfile.TemporaryDirectory(prefix="picture") as folder:
+        browse(page, f"--window-size={width},{height}", f"--screenshot={folder}/page.png")
+        return Picture((Path(folder) / "page.png").read_bytes())
+
+
+def printed(page):
+    """Its PDF: how many pages it has, and the sizes that they have, in points."""
+    with tempfile.TemporaryDirectory(prefix="printed") as folder:
+        browse(page, "--no-pdf-header-footer", f"--print-to-pdf={folder}/page.pdf")
+        run = (Path(folder) / "page.pdf").read_bytes()
+    sizes = {tuple(round(float(number)) for number in size.split()) for size in re.findall(rb"/MediaBox \[([^\]]*)\]", run)}
+    return run.startswith(b"%PDF-"), max(map(int, re.findall(rb"/Count (\d+)", run)), default=0), sizes
+
+
+def asked(page):
+    """The first lines of what is asked of a network while the page is open."""
+    lines = []
+
+    def listen(door):
+        while True:
+            try:
+                way, _ = door.accept()
+            except OSError:
+                return
+            with way:
+                lines.append(way.recv(4096).split(b"\r\n")[0].decode("latin-1"))
+
+    with socket.create_server(("127.0.0.1", 0)) as door:
+        threading.Thread(target=listen, args=(door,), daemon=True).start()
+        browse(page, "--timeout=3000", "--dump-dom", port=door.getsockname()[1])
+    return lines
+
+
+class Page(HTMLParser):
+    """A page as the browser has read it: its words by element and class, its tables, and the elements themselves."""
+
+    def __init__(self, text):
+        super().__init__()
+        self.open, self.words, self.elements, self.tables = [], {}, [], []
+        self.feed(text)
+        self.words = {key: [" ".join(text.split()) for text in texts] for key, texts in self.words.items()}
+        self.tables = [[[" ".join(cell.split()) for cell in row] for row in table] for table in self.tables]
+
+    def handle_starttag(self, tag, attrs):
+        attrs = dict(attrs)
+        keys = [tag] + [f"{tag}.{name}" for name in (attrs.get("class") or "").split()]
+        self.elements.append((tag, attrs))
+        for key in keys:
+            self.words.setdefault(key, []).append("")
+        if tag == "table":
+            self.tables.append([])
+        elif tag == "tr":
+            self.tables[-1].append([])
+        elif tag in ("th", "td"):
+            self.tables[-1][-1].append("")
+        if tag not in ("meta", "link", "img", "br", "hr", "input"):
+            self.open.append((tag, keys))
+
+    def handle_endtag(self, tag):
+        while self.open and self.open.pop()[0] != tag:
+            pass
+
+    def handle_data(self, data):
+        within = [tag for tag, _ in self.open]
+        for key in {key for _, keys in self.open for key in keys}:
+            self.words[key][-1] += data
+        if "th" in within or "td" in within:
+            self.tables[-1][-1][-1] += data
+
+    def one(self, key):
+        """The words of the one element of its kind."""
+        found = self.words.get(key, [])
+        return found[0] if len(found) == 1 else found
+
+    def with_class(self, name):
+        return [attrs for _, attrs in self.elements if name in (attrs.get("class") or "").split()]
+
+
+def read(page):
+    return Page(browse(page, "--dump-dom"))
