@@ -8,8 +8,8 @@
  *   - memory lent to one call does not overlap, and nobody else touches it during the call.
  *
  * What each call does is document 01's, and of a log document 02's (Ask 1, Ask 9); it is proved for every input:
- * docs/EXAMINER.md says of what, and what is assumed. The helpers and names of this header are not proved: they take an answer apart, or name a number, and
- * decide nothing. */
+ * docs/EXAMINER.md says of what, and what is assumed. The helpers and names of this header are not proved: they take an
+ * answer apart, or name a number, and decide nothing. */
 #ifndef ZIKHRODAN_H
 #define ZIKHRODAN_H
 
