@@ -1,5 +1,5 @@
 """died.py: `zikhrodan died` beside a plain reading of every sample: all 24 lines, block borders, logs without summaries, damage,
-power-ups. died_hours.py has the hours, log_hardships.py what cannot be read or printed."""
+power-ups. died_hours.py has the hours, log_outputs.py and log_hardships.py what cannot be printed or read."""
 import json
 import random
 

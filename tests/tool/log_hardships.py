@@ -1,14 +1,12 @@
-"""log_hardships.py: a full disk, a write or a sync that fails, no rights, no standard output: one line, status 2, and the log has
-what was acknowledged."""
+"""log_hardships.py: a full disk, a write or a sync that fails, no rights: one line, status 2, and the log has what was
+acknowledged."""
 import os
 import signal
 import subprocess
-import time
 
 import logs
 from disk import another, limited
 from log_kills import begun, look, rows_from, state_after
-from outputs import WAYS, without_output
 from recorded import build, recorded
 from station import BY_RUN, PROGRAM, SECOND, settled, zikhrodan
 
@@ -169,41 +167,6 @@ def few(folder, checks, program=PROGRAM):
             group.same("it ends", True, False)
 
 
-def outputs(folder, checks):
-    with checks.group("standard output cannot be written: one line, status 2; what was to be changed is") as group:
-        for what in WAYS:
-            complaint = (2, "", f"zikhrodan: standard output: {what}\n")
-            for words, rows in ((ADD, OLD + NEW), (POWER_UP, OLD), (SAMPLE, OLD + NEW), *((words, OLD) for words in SHOWS)):
-                path, _ = kept(folder)
-                group.same(f"{words}, {what}", complaint,
-                           without_output(lambda words=words, **lost: zikhrodan(folder, *words, **lost), what))
-                group.same(f"{words}, {what}: the log", rows, look(path))
-            seen = without_output(lambda **lost: zikhrodan(folder, "log", "new", "new.log", 3, **lost), what)
-            group.same(f"log new, {what}", (complaint, []), (seen, look(folder / "new.log")))
-            (folder / "new.log").unlink()
-    with checks.group("of a log that is long, a form whose output nobody takes ends at once") as group:
-        kept(folder, rows_from(0, 60000))
-        for words in SHOWS[1:]:
-            started = time.monotonic()
-            seen = without_output(lambda words=words, **lost: zikhrodan(folder, *words, **lost), "Broken pipe")
-            group.same(words, (2, "", "zikhrodan: standard output: Broken pipe\n"), seen)
-            group.same(f"{words}: at once", True, time.monotonic() - started < 0.5 * SECOND)
-
-
-def many(folder, checks):
-    with checks.group("20000 rows are added in one go, and shown in each form, in seconds") as group:
-        folder.mkdir()
-        rows = rows_from(0, 20000)
-        (folder / "new.rows").write_bytes(b"".join(rows))
-        group.same("log new", 0, zikhrodan(folder, "log", "new", "kept.log", 1250)[0])
-        for words, lines in ((ADD, 2), *zip(SHOWS[1:], (20004, 21268, 20001, 27, 1, 33))):
-            started = time.monotonic()
-            status, said, _ = zikhrodan(folder, *words)
-            group.same(words, (0, lines), (status, said.count("\n")))
-            group.same(f"{words}: in seconds", True, time.monotonic() - started < 3 * SECOND)
-        group.same("the log", rows, look(folder / "kept.log"))
-
-
 def run(folder, checks):
     full(folder / "full", checks)
     program = build(folder / "program")
@@ -211,5 +174,3 @@ def run(folder, checks):
     keeping(folder / "keeping", checks, program)
     rights(folder, checks)
     few(folder / "few", checks)
-    outputs(folder / "outputs", checks)
-    many(folder / "many", checks)

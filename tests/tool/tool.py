@@ -17,6 +17,7 @@ import kills
 import links
 import log_hardships
 import log_kills
+import log_outputs
 import log_power
 import log_together
 import manual
@@ -35,7 +36,7 @@ import together
 from bench import Checks
 
 PARTS = {part.__name__: part for part in (rules, manual, stored, examples, keys, outputs, disk, synced, kills, together, pauses,
-                                           links, terminals, log_kills, log_power, log_together, log_hardships, died,
+                                           links, terminals, log_kills, log_power, log_together, log_hardships, log_outputs, died,
                                            died_hours, report, report_whole, report_drawn, report_looks, report_hardships)}
 
 

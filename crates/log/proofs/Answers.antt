@@ -10,20 +10,21 @@ use native.Mathlib.Omega.{arith}
 use lib.Dec.{ltb}
 use lib.ListN.{length, getD}
 use denote.Ref.{RefT, now}
-use borrow.Author.Tests.{le-ltb, lt-leb, ltb-false}
-use Rattle.laws.specs.Tests.{if_then_else_, firstOf}
+use borrow.Author.Tests.{le-ltb, ltb-false}
+use Rattle.laws.specs.Tests.{if_then_else_}
 use Rattle.laws.specs.Lists.{part}
 use Rattle.laws.proofs.Tests.{case}
 use Rattle.log.specs.Block.{sampleSize}
-use Rattle.log.specs.Log.{blocks, samples, total, placeOf, afterPowerUp, afterAdd, usedAfter}
-use Rattle.log.specs.Contracts.{addRefusal, powerUpRefusal, sampleRefusal, Added, Opened, Placed, Shown, Bytes}
+use Rattle.log.specs.Log.{blocks, samples, total, afterPowerUp, afterAdd, usedAfter}
+use Rattle.log.specs.Contracts.{addRefusal, powerUpRefusal, Added, Opened, Placed, Shown, Bytes}
 use Rattle.log.specs.Search.{lit, orElse, firstIn, refused, given, firstTold}
-use Rattle.log.proofs.Fits.{Fit, fit-sound}
+use Rattle.log.proofs.Fits.{Fit}
 use Rattle.log.proofs.Calls.{add-taken, add-sound, add-samples, power-up-taken, power-up-sound, power-up-samples}
-use Rattle.log.proofs.Positions.{sample-lies}
+use Rattle.log.proofs.Positions.{sample-taken, sample-placed}
 use Rattle.log.proofs.Kept.{Known}
 use Rattle.log.proofs.Search.{first-is, first-only, first-append, search-reads}
-use Rattle.log.proofs.Least.{sound-crowded, first-given}
+use Rattle.log.proofs.Least.{sound-crowded}
+use Rattle.log.proofs.Told.{first-given}
 
 -- ---- a sound log
 
@@ -52,16 +53,12 @@ module _ (log : List ℕ) (used k : ℕ) (was : Fit log used) where
   first-never small lacks =
       first-reads ∙ rw (le-ltb 23 k (omega arith)) (ap given (first-only k (samples log used) (firstIn k (samples log used)) none (first-is k (samples log used)) lacks))
 
-  -- a reading at that position, or at one before it, is accepted
-  readable : (i : ℕ) → firstTold log used k ≡ given (some i) → (j : ℕ) → j ≤ i → (sampleRefusal log used j ≡ 0) × (j < total log used)
-  readable i e j h =
-      let l = first-there i e .0 in
-      ((λ i'. firstOf ((15, fit-sound was i') ∷ (17, lt-leb (total log used) j (omega arith) i') ∷ [])), omega arith)
-
 -- the same of the reading call: what it hands back at the position that is answered, and at those before it
 module _ (log : RefT (List ℕ)) (used k i : ℕ) (was : Fit (now log) used) (e : firstTold (now log) used k ≡ given (some i)) where
   handed : (j : ℕ) → j ≤ i → {r : RefT (List ℕ)} → Shown log used j r → now r ≡ getD (samples (now log) used) j []
-  handed j h d = d .bytes-are ∙ rw (readable (now log) used k was i e j h .0)
+  handed j h d =
+      let l = first-there (now log) used k was i e .0 in
+      d .bytes-are ∙ rw (sample-taken (now log) used j was (omega arith))
 
   pub first-read : {r : RefT (List ℕ)} → Shown log used i r → lit k (now r) ≡ true
   first-read d = ap (lit k) (handed i (omega arith) d) ∙ first-there (now log) used k was i e .1
@@ -72,10 +69,7 @@ module _ (log : RefT (List ℕ)) (used k i : ℕ) (was : Fit (now log) used) (e 
 -- and of the place that C is told: the 31 bytes there
 module _ (log : List ℕ) (used k i : ℕ) (was : Fit log used) (e : firstTold log used k ≡ given (some i)) where
   placed : (j : ℕ) → j ≤ i → {r s : ℕ} → Placed log used j r s → (r ≡ 0) × (part s sampleSize log ≡ getD (samples log used) j [])
-  placed j h {r} {s} d =
-      let (z, l) = readable log used k was i e j h in
-      let there : s ≡ placeOf log used j = d .start-is ∙ rw z in
-      (d .refusal-is ∙ z, rw there (sample-lies log used j (was .fits) (was .good) l .1))
+  placed j h d = let l = first-there log used k was i e .0 in sample-placed log used j was (omega arith) d
 
   pub first-place : {r s : ℕ} → Placed log used i r s → (r ≡ 0) × (lit k (part s sampleSize log) ≡ true)
   first-place d = let (z, p) = placed i (omega arith) d in (z, ap (lit k) p ∙ first-there log used k was i e .1)

@@ -7,16 +7,16 @@ use Prim.Native.Nat.{ℕ, suc, _%_, _<_}
 use lib.Dec.{eqb, leb}
 use lib.ListN.{length, getD}
 use denote.Ref.{RefT, now}
-use borrow.Author.Tests.{eqb-true, lt-leb}
+use borrow.Author.Tests.{eqb-true}
 use Rattle.laws.specs.Tests.{if_then_else_, firstOf}
 use Rattle.laws.specs.Lists.{part}
 use Rattle.laws.proofs.Tests.{case}
 use Rattle.log.specs.Block.{blockSize, sampleSize}
-use Rattle.log.specs.Log.{samples, lastNumber, needsNew, afterPowerUp, afterAdd, usedAfter, total, placeOf}
+use Rattle.log.specs.Log.{samples, lastNumber, needsNew, afterPowerUp, afterAdd, usedAfter, total}
 use Rattle.log.specs.Contracts.{addRefusal, powerUpRefusal, sampleRefusal, Added, Opened, Shown, Bytes, Served, begun, adding, opening, Placed}
 use Rattle.log.proofs.Fits.{Fit, fit-sound, unused-fit}
 use Rattle.log.proofs.Calls.{add-taken, add-sound, add-samples, add-number, power-up-taken, power-up-sound, power-up-samples, power-up-number}
-use Rattle.log.proofs.Positions.{sample-lies}
+use Rattle.log.proofs.Positions.{sample-placed}
 use Rattle.log.proofs.Bytes.{add-bytes, power-up-bytes}
 
 -- what is known of a log after calls
@@ -82,7 +82,6 @@ kept-read {xs} {n} log was k d = d .bytes-are ∙ case (leb (length xs) k)
 pub kept-place : {xs : List (List ℕ)} {t : List ℕ} {n : ℕ} → Known xs t n → (k : ℕ) {r s : ℕ} → Placed t n k r s → k < length xs
     → (r ≡ 0) × (part s sampleSize t ≡ getD xs k [])
 kept-place {xs} {t} {n} was k {r} {s} d h =
-    let z : sampleRefusal t n k ≡ 0 = kept-refusal was k ∙ rw (lt-leb (length xs) k h) in
     let w : k < total t n = rw (was .samples-are) h in
-    let e : s ≡ placeOf t n k = d .start-is ∙ rw z in
-    (d .refusal-is ∙ z, rw e (sample-lies t n k (was .fit .fits) (was .fit .good) w .1 ∙ ap (λ l. getD l k []) (was .samples-are)))
+    let (z, p) = sample-placed t n k (was .fit) w d in
+    (z, p ∙ ap (λ l. getD l k []) (was .samples-are))

@@ -1,45 +1,24 @@
--- Document 02, Ask 9: what the question says of any memory, sound or not: when each refusal is given, and the answer, exactly.
+-- Document 02, Ask 9: the first sample with a status bit among the used blocks of any memory that are not passed over: that the
+-- search's answer is the least position, and the only one that is.
 -- Assumes nothing.
 use mathlib.Core.Path.{_≡_, refl, sym, ap, _∙_}
-use mathlib.Core.Logic.{_≢_, _↔_}
-use mathlib.Core.Bool.{Bool, true, false, true≢false}
-use mathlib.Core.List.{List, [], _∷_}
+use mathlib.Core.Bool.{true, false}
+use mathlib.Core.List.{List, []}
 use mathlib.Core.Option.{Option, none, some}
 use Prim.Native.Nat.{ℕ, zero, suc, _+_, _-_, _*_, _≤_, _<_}
 use native.Mathlib.Omega.{arith}
 use lib.Dec.{ltb, eqb}
 use lib.ListN.{length, getD}
 use borrow.Author.Tests.{le-ltb, ltb-true, ltb-false, eqb-true, eqb-false}
-use Rattle.laws.specs.Tests.{Row, noneOf}
 use Rattle.laws.specs.Lists.{at, part}
 use Rattle.laws.proofs.Tests.{case, not-both, or-left, or-right}
-use Rattle.laws.proofs.Parts.{part-same}
-use Rattle.laws.proofs.Rows.{first-exact, first-none}
 use Rattle.log.specs.Block.{blockSize, sampleSize, count, mostSamples, slot, samplesIn}
 use Rattle.log.specs.Log.{block, sound, samples, total, misfit}
-use Rattle.log.specs.Search.{lit, further, orElse, firstIn, passed, firstOfBlock, firstWith, crowded, misshapen, firstRows, firstRefusal, Answer, refused, given, firstTold}
+use Rattle.log.specs.Search.{lit, further, orElse, firstIn, passed, firstOfBlock, firstWith, crowded, misshapen}
 use Rattle.log.proofs.Blocks.{sound-count}
-use Rattle.log.proofs.Logs.{sound-less, sound-block, samples-same, samples-length, samples-at, total-more}
+use Rattle.log.proofs.Logs.{sound-less, sound-block, samples-length, samples-at, total-more}
 use Rattle.log.proofs.Fits.{fitting}
 use Rattle.log.proofs.Search.{FirstIs, first-is}
-
--- ---- refusals, in the ask's order
-
--- "15 for .., then 17 for a bit above 23"
-pub record FirstInOrder (log : List ℕ) (used k : ℕ) : Type 0 where
-  pub shape : (firstRefusal log used k ≡ 15) ↔ (misshapen log used ≡ true)
-  pub bit : misshapen log used ≡ false → (firstRefusal log used k ≡ 17) ↔ (ltb 23 k ≡ true)
-  pub free : (firstRefusal log used k ≡ 0) ↔ (noneOf (firstRows log used k) ≡ true)
-
-pub first-in-order : (log : List ℕ) (used k : ℕ) → FirstInOrder log used k
-first-in-order log used k =
-    let m : Row = (15, misshapen log used) in
-    let b : Row = (17, ltb 23 k) in
-    record {
-      shape = first-exact [] (b ∷ []) 15 (m .1) refl refl;
-      bit = λ a. first-exact (m ∷ []) [] 17 (b .1) (rw a) refl;
-      free = first-none (firstRows log used k) refl;
-    }
 
 -- ---- counts
 
@@ -68,7 +47,7 @@ total-few log (suc n) e =
     omega arith
 
 -- memory that is not refused 15
-shapely : (log : List ℕ) (used : ℕ) → misshapen log used ≡ false → (blockSize * used ≤ length log) × (crowded log used ≡ false)
+pub shapely : (log : List ℕ) (used : ℕ) → misshapen log used ≡ false → (blockSize * used ≤ length log) × (crowded log used ≡ false)
 shapely log used e =
     let h = fitting log used (or-left (misfit log used) (crowded log used) e) .1 in
     (omega arith, or-right (misfit log used) (crowded log used) e)
@@ -104,7 +83,7 @@ hit-either {log} {n} {k} {m} {i} h old new = case (ltb m n)
     (λ t. old (record { used-block = ltb-true m n t; sample-there = h .sample-there; looked-at = h .looked-at; has-it = h .has-it }))
     (λ t. let u = h .used-block in let l = ltb-false m n t in new (omega arith))
 
-total-less : (log : List ℕ) (m n : ℕ) → m ≤ n → total log m ≤ total log n
+pub total-less : (log : List ℕ) (m n : ℕ) → m ≤ n → total log m ≤ total log n
 total-less log m zero h = let z : m ≡ zero = omega arith in rw z (omega arith)
 total-less log m (suc n) h = case (ltb n m)
     (λ t. let l = ltb-true n m t in let z : m ≡ suc n = omega arith in rw z (omega arith))
@@ -154,7 +133,7 @@ module _ (log : List ℕ) (k : ℕ) where
   first-least (suc n) = least-next n (firstWith log n k) (first-least n)
 
 -- and no other answer is that
-least-only : (log : List ℕ) (used k : ℕ) (r s : Option ℕ) → Least log used k r → Least log used k s → r ≡ s
+pub least-only : (log : List ℕ) (used k : ℕ) (r s : Option ℕ) → Least log used k r → Least log used k s → r ≡ s
 least-only log used k none none a b = refl
 least-only log used k none (some q) a ((n, i, hit, e), least) = absurd (a n i hit)
 least-only log used k (some p) none ((n, i, hit, e), least) b = absurd (b n i hit)
@@ -162,76 +141,3 @@ least-only log used k (some p) (some q) ((n, i, hit, e), least) ((m, j, other, d
     let x = least m j other in
     let y = lesser n i hit in
     ap some (omega arith)
-
--- ---- an answer that is given
-
--- is the search's, and the memory is whole blocks
-pub first-given : (log : List ℕ) (used k : ℕ) {r : Option ℕ} → firstTold log used k ≡ given r → (misshapen log used ≡ false) × (k ≤ 23) × (firstWith log used k ≡ r)
-first-given log used k {r} e = case (misshapen log used)
-    (λ t. absurd (true≢false (ap is-refused (rw t at e))))
-    (λ t. case (ltb 23 k)
-    (λ u. absurd (true≢false (ap is-refused (rw (t, u) at e))))
-    (λ u. (t, ltb-false 23 k u, ap place (rw (t, u) at e))))
-  where
-    is-refused : Answer → Bool
-    is-refused (refused n) = true
-    is-refused (given p) = false
-
-    place : Answer → Option ℕ
-    place (refused n) = none
-    place (given p) = p
-
--- a refusal has a number
-pub first-refused-by : (log : List ℕ) (used k : ℕ) {n : ℕ} → firstTold log used k ≡ refused n → n ≢ 0
-first-refused-by log used k {n} e z = case (eqb (firstRefusal log used k) 0)
-    (λ t. true≢false (ap is-given (rw t at e)))
-    (λ t. eqb-false (firstRefusal log used k) 0 t (ap number-in (rw t at e) ∙ z))
-  where
-    is-given : Answer → Bool
-    is-given (refused m) = false
-    is-given (given p) = true
-
-    number-in : Answer → ℕ
-    number-in (refused m) = m
-    number-in (given p) = 0
-
--- "Otherwise it answers the first such sample among the blocks not passed over": that, and nothing else
-pub first-exactly : (log : List ℕ) (used k : ℕ) → misshapen log used ≡ false → k ≤ 23 → (r : Option ℕ) → (firstTold log used k ≡ given r) ↔ Least log used k r
-first-exactly log used k shaped small r = (
-  (λ e. rw (first-given log used k e .2) at (first-least log k used)),
-  (λ least. rw (shaped, le-ltb 23 k small) (ap given (least-only log used k (firstWith log used k) r (first-least log k used) least))),
-)
-
--- a position is below a thirty-second of the memory's length
-pub first-short : (log : List ℕ) (used k i : ℕ) → firstTold log used k ≡ given (some i) → 32 * suc i ≤ length log
-first-short log used k i e =
-    let (shaped, small, is-it) = first-given log used k e in
-    let (fits, uncrowded) = shapely log used shaped in
-    let few = total-few log used uncrowded in
-    let ((n, j, hit, at-it), least) = rw is-it at (first-least log k used) in
-    let there = hit .sample-there in
-    let more = total-more log n in
-    let before = total-less log (suc n) used (hit .used-block) in
-    omega arith
-
--- ---- unused blocks
-
--- what is answered goes by the used blocks alone
-module _ (log t : List ℕ) (k : ℕ) where
-  crowded-same : (n : ℕ) → ((i : ℕ) → i < n → block t i ≡ block log i) → crowded t n ≡ crowded log n
-  unfolding crowded
-  crowded-same zero same = refl
-  crowded-same (suc n) same = rw (crowded-same n (λ i h. same i (omega arith)), same n (omega arith))
-
-  first-same : (n : ℕ) → ((i : ℕ) → i < n → block t i ≡ block log i) → firstWith t n k ≡ firstWith log n k
-  unfolding firstWith
-  first-same zero same = refl
-  first-same (suc n) same =
-      let below : (i : ℕ) → i < n → block t i ≡ block log i = λ i h. same i (omega arith) in
-      rw (first-same n below, samples-same log t n below, same n (omega arith))
-
-  pub first-unused : (used : ℕ) → length t ≡ length log → blockSize * used ≤ length log → ((i : ℕ) → i < blockSize * used → at t i ≡ at log i)
-      → firstTold t used k ≡ firstTold log used k
-  first-unused used long fits agree =
-      let same : (i : ℕ) → i < used → block t i ≡ block log i = λ i h. part-same (blockSize * i) blockSize log (omega arith) t (omega arith) (λ j l. agree (blockSize * i + j) (omega arith)) in
-      rw (long, crowded-same used same, first-same used same)

@@ -13,5 +13,6 @@ pub mod Refusals
 pub mod Summaries
 pub mod Search
 pub mod Least
+pub mod Told
 pub mod Answers
 pub mod Searched

@@ -55,6 +55,12 @@ module _ (log t : List ℕ) where
   samples-same zero same = refl
   samples-same (suc n) same = rw (samples-same n (λ i h. same i (omega arith)), same n (omega arith))
 
+-- whose bytes there are the same
+pub blocks-same : (log t : List ℕ) (n : ℕ) → length t ≡ length log → blockSize * n ≤ length log → ((i : ℕ) → i < blockSize * n → at t i ≡ at log i)
+    → (i : ℕ) → i < n → block t i ≡ block log i
+blocks-same log t n long fits agree i h =
+    part-same (blockSize * i) blockSize log (omega arith) t (omega arith) (λ j k. agree (blockSize * i + j) (omega arith))
+
 -- ---- a block that is put
 
 module _ (log : List ℕ) (i : ℕ) (b : List ℕ) where

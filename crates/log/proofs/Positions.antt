@@ -1,22 +1,25 @@
--- Document 02, Ask 1: positions. Where the sample at a position lies, that those bytes are that sample of the list, and the walk over the
--- used blocks that finds it.
+-- Document 02, Ask 1: positions. Where the sample at a position lies, that those bytes are that sample of the list, and the walk over
+-- the used blocks that finds it.
 -- Assumes nothing.
 use mathlib.Core.Path.{_≡_, sym, ap, _∙_}
 use mathlib.Core.Bool.{true}
-use mathlib.Core.List.{List, [], _++_}
+use mathlib.Core.List.{List, [], _∷_, _++_}
 use Prim.Native.Nat.{ℕ, zero, suc, _+_, _-_, _*_, _≤_, _<_}
 use native.Mathlib.Omega.{arith}
 use lib.Dec.{ltb}
 use lib.ListN.{getD, List·getD-append}
 use lib.Seq.{getD-append-add}
-use borrow.Author.Tests.{lt-ltb, le-ltb, ltb-true, ltb-false}
+use borrow.Author.Tests.{lt-ltb, le-ltb, lt-leb, ltb-true, ltb-false}
+use Rattle.laws.specs.Tests.{firstOf}
 use Rattle.laws.specs.Lists.{part}
 use Rattle.laws.proofs.Tests.{case}
 use Rattle.laws.proofs.Parts.{part-part}
 use Rattle.log.specs.Block.{blockSize, sampleSize, count, slot, samplesIn}
 use Rattle.log.specs.Log.{blocks, block, sound, samples, total, placeOf}
+use Rattle.log.specs.Contracts.{sampleRefusal, Placed}
 use Rattle.log.proofs.Blocks.{sound-count}
 use Rattle.log.proofs.Logs.{sound-less, sound-block, samples-length, samples-at, total-more}
+use Rattle.log.proofs.Fits.{Fit, fit-sound}
 
 module _ (log : List ℕ) where
   -- the walk: before block n there are fewer samples, with it there are enough
@@ -59,3 +62,13 @@ module _ (log : List ℕ) where
             ∙ sym (getD-append-add (samples log n) (samplesIn b) j [])
             ∙ ap (λ i. getD (samples log n ++ samplesIn b) i []) z,
       ))
+
+-- a position of a sound log: the reading is accepted, and the 31 bytes at the place that C is told are that sample
+module _ (log : List ℕ) (used k : ℕ) (was : Fit log used) (there : k < total log used) where
+  pub sample-taken : sampleRefusal log used k ≡ 0
+  sample-taken = λ i. firstOf ((15, fit-sound was i) ∷ (17, lt-leb (total log used) k there i) ∷ [])
+
+  pub sample-placed : {r s : ℕ} → Placed log used k r s → (r ≡ 0) × (part s sampleSize log ≡ getD (samples log used) k [])
+  sample-placed {r} {s} d =
+      let e : s ≡ placeOf log used k = d .start-is ∙ rw sample-taken in
+      (d .refusal-is ∙ sample-taken, rw e (sample-lies log used k (was .fits) (was .good) there .1))

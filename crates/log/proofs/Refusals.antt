@@ -5,19 +5,18 @@ use mathlib.Core.Path.{_≡_, refl, _∙_}
 use mathlib.Core.Logic.{_↔_}
 use mathlib.Core.Bool.{true, false, _&&_, _||_}
 use mathlib.Core.List.{List, [], _∷_}
-use Prim.Native.Nat.{ℕ, _+_, _*_, _≤_, _<_}
+use Prim.Native.Nat.{ℕ, _*_, _≤_, _<_}
 use native.Mathlib.Omega.{arith}
 use lib.Dec.{leb, eqb}
 use lib.ListN.{length}
 use Rattle.laws.specs.Tests.{if_then_else_, Row, noneOf}
 use Rattle.laws.specs.Lists.{at, table, sum}
 use Rattle.laws.proofs.Rows.{first-exact, first-none}
-use Rattle.laws.proofs.Parts.{part-same}
 use Rattle.log.specs.Block.{blockSize, anyTo, summary, checkOf, sealed, holds, soundBlock, fresh}
 use Rattle.log.specs.Log.{block, samples, total, needsNew, afterPowerUp, wrongSample, unsound, noneLeft, addRows, powerUpRows, sampleRows}
 use Rattle.log.specs.Contracts.{addRefusal, powerUpRefusal, sampleRefusal}
 use Rattle.log.proofs.Blocks.{fresh-length}
-use Rattle.log.proofs.Logs.{sound-same, samples-same, put-here}
+use Rattle.log.proofs.Logs.{sound-same, samples-same, blocks-same, put-here}
 
 -- ---- in the ask's order
 
@@ -85,7 +84,7 @@ opens-always log used a b = first-none (powerUpRows log used) refl .1 (λ i. non
 module _ (log t : List ℕ) (used : ℕ) (long : length t ≡ length log) (fits : blockSize * used ≤ length log)
     (agree : (i : ℕ) → i < blockSize * used → at t i ≡ at log i) where
   same : (i : ℕ) → i < used → block t i ≡ block log i
-  same i h = part-same (blockSize * i) blockSize log (omega arith) t (omega arith) (λ j k. agree (blockSize * i + j) (omega arith))
+  same = blocks-same log t used long fits agree
 
   pub unused-free : (unsound t used ≡ unsound log used) × (samples t used ≡ samples log used)
   unused-free = (rw (long, sound-same log t used same), samples-same log t used same)
