@@ -17,7 +17,7 @@ use Rattle.laws.proofs.Tests.{case, and-both, covers-in, covers-below}
 use Rattle.laws.proofs.Lists.{is-table, patch-length, patch-at, patch-in, patch-else, is-patch, patch-same, at-set}
 use Rattle.laws.proofs.Parts.{table-same, table-front}
 use Rattle.laws.proofs.Zeros.{sum-table}
-use Rattle.log.specs.Block.{blockSize, count, slot, roomEnd, anyTo, summary, checkAt, first510, checkOf, sealed, holds, summed, checked}
+use Rattle.log.specs.Block.{blockSize, count, slot, roomEnd, anyTo, summary, checkAt, first510, checkOf, sealed, holds, hasSummary, summed, checked}
 use Rattle.log.proofs.Sealed.{holds-at}
 
 -- ---- the end of a block
@@ -49,18 +49,23 @@ module _ (b : List ℕ) where
       (λ t. let o : at b 504 ≡ 1 = holds-at roomEnd 9 (summary (at b)) b t 3 (omega arith) in absurd (omega arith))
       (λ t. rw t)
 
-  -- and else there must be: three ORs, the mark, and five zeros
-  pub marked-summed : at b 504 ≢ 0 → (first second third : ℕ) → first ≡ anyTo (at b) 0 (count b) → second ≡ anyTo (at b) 1 (count b) → third ≡ anyTo (at b) 2 (count b)
-      → ((((eqb (at b 501) first && eqb (at b 502) second) && eqb (at b 503) third) && eqb (at b 504) 1) && holds 505 5 (λ j. 0) b) ≡ summed b
+  -- and else there must be
+  pub marked-summed : at b 504 ≢ 0 → hasSummary b ≡ summed b
+  marked-summed d =
+      let none : holds roomEnd 9 (λ j. 0) b ≡ false = case (holds roomEnd 9 (λ j. 0) b)
+      (λ t. absurd (d (holds-at roomEnd 9 (λ j. 0) b t 3 (omega arith)))) (λ t. t) in
+      rw none (sym (or-false _))
+
+  -- a summary: three ORs, the mark, and five zeros
+  pub summary-parts : (first second third : ℕ) → first ≡ anyTo (at b) 0 (count b) → second ≡ anyTo (at b) 1 (count b) → third ≡ anyTo (at b) 2 (count b)
+      → ((((eqb (at b 501) first && eqb (at b 502) second) && eqb (at b 503) third) && eqb (at b 504) 1) && holds 505 5 (λ j. 0) b) ≡ hasSummary b
   unfolding summary holds
-  marked-summed d first second third p q r =
+  summary-parts first second third p q r =
       let parts : holds roomEnd 9 (summary (at b)) b ≡ (holds roomEnd 4 (summary (at b)) b && holds 505 5 (λ j. 0) b) =
       holds-both roomEnd 4 5 (summary (at b)) b
       ∙ ap (λ t. holds roomEnd 4 (summary (at b)) b && t) (holds-same 505 5 (λ j. summary (at b) (4 + j)) (λ j. 0) b
       (λ j h. rw (le-ltb (4 + j) 3 (omega arith), ne-eqb (4 + j) 3 (λ z. omega arith)))) in
-      let none : holds roomEnd 9 (λ j. 0) b ≡ false = case (holds roomEnd 9 (λ j. 0) b)
-      (λ t. absurd (d (holds-at roomEnd 9 (λ j. 0) b t 3 (omega arith)))) (λ t. t) in
-      rw (p, q, r, none, parts) (sym (or-false _))
+      rw (p, q, r, parts)
 
 -- the sum of a whole block is the sum of its first 510 bytes and the two of the check
 sum-all : (b : List ℕ) → length b ≡ blockSize → sum (part 0 blockSize b) ≡ sum (table checkAt (at b)) + at b checkAt + at b (suc checkAt)

@@ -4,7 +4,7 @@ ghost use mathlib.Core.Path.{_≡_};
 ghost use Prim.Native.Nat.{_+_, _*_, _%_, _≤_, _<_};
 ghost use lib.ListN.{length};
 ghost use Rattle.laws.specs.Lists.{at, part, table, patch, sum};
-ghost use Rattle.log.specs.Block.{blockSize, sampleSize, number, numberBytes, countAt, count, mostSamples, roomEnd, anyTo, summary, sealed, holds, summed, checked, soundBlock, fresh, grown};
+ghost use Rattle.log.specs.Block.{blockSize, sampleSize, number, numberBytes, countAt, count, mostSamples, roomEnd, anyTo, summary, sealed, holds, hasSummary, summed, checked, soundBlock, fresh, grown};
 
 pub const BLOCK_LEN: usize = 512;
 
@@ -83,14 +83,11 @@ fn status_of(block: &[u8], n: usize) -> Status
     }
 }
 
-// Whether bytes 501 to 509 are a summary of the samples, or all 0.
-fn is_summed(block: &[u8]) -> bool
+// Whether bytes 501 to 509 are the summary of the samples.
+fn has_summary(block: &[u8]) -> bool
     requires { ⌜ (length (now block) ≡ blockSize) × (count (now block) ≤ mostSamples) ⌝ }
-    ensures { λ r. ⌜ r ≡ summed (now (block .entry)) ⌝ }
+    ensures { λ r. ⌜ r ≡ hasSummary (now (block .entry)) ⌝ }
 {
-    if block[MARK_AT] == 0 {
-        return is_blank(block, ROOM_END, 9);
-    }
     let s = status_of(block, block[COUNT_AT] as usize);
     let rest = is_blank(block, MARK_AT + 1, 5);
     (block[501] == s.first)
@@ -98,6 +95,17 @@ fn is_summed(block: &[u8]) -> bool
         & (block[503] == s.third)
         & (block[MARK_AT] == 1)
         & rest
+}
+
+// Whether they are that, or all 0.
+fn is_summed(block: &[u8]) -> bool
+    requires { ⌜ (length (now block) ≡ blockSize) × (count (now block) ≤ mostSamples) ⌝ }
+    ensures { λ r. ⌜ r ≡ summed (now (block .entry)) ⌝ }
+{
+    if block[MARK_AT] == 0 {
+        return is_blank(block, ROOM_END, 9);
+    }
+    has_summary(block)
 }
 
 // Whether bytes 510 and 511 are the check of those before them: the sum of all 512 is then the number that the two make, plus the

@@ -5,15 +5,16 @@ use mathlib.Core.Path.{_≡_, refl, _∙_}
 use mathlib.Core.Logic.{_↔_}
 use mathlib.Core.Bool.{true, false, _&&_, _||_}
 use mathlib.Core.List.{List, [], _∷_}
-use Prim.Native.Nat.{ℕ, _*_, _≤_, _<_}
+use Prim.Native.Nat.{ℕ, suc, _*_, _≤_, _<_}
 use native.Mathlib.Omega.{arith}
 use lib.Dec.{leb, eqb}
 use lib.ListN.{length}
+use borrow.Author.Tests.{lt-leb, ne-eqb}
 use Rattle.laws.specs.Tests.{if_then_else_, Row, noneOf}
 use Rattle.laws.specs.Lists.{at, table, sum}
 use Rattle.laws.proofs.Rows.{first-exact, first-none}
-use Rattle.log.specs.Block.{blockSize, anyTo, summary, checkOf, sealed, holds, soundBlock, fresh}
-use Rattle.log.specs.Log.{block, samples, total, needsNew, afterPowerUp, wrongSample, unsound, noneLeft, addRows, powerUpRows, sampleRows}
+use Rattle.log.specs.Block.{blockSize, number, count, anyTo, summary, checkOf, sealed, holds, soundBlock, fresh}
+use Rattle.log.specs.Log.{blocks, block, samples, total, needsNew, afterPowerUp, wrongSample, unsound, noneLeft, addRows, powerUpRows, sampleRows}
 use Rattle.log.specs.Contracts.{addRefusal, powerUpRefusal, sampleRefusal}
 use Rattle.log.proofs.Blocks.{fresh-length}
 use Rattle.log.proofs.Logs.{sound-same, samples-same, blocks-same, put-here}
@@ -76,9 +77,13 @@ sample-in-order log used k =
 pub room-suffices : (log : List ℕ) (used : ℕ) (x : List ℕ) → wrongSample x ≡ false → unsound log used ≡ false → needsNew log used ≡ false → addRefusal log used x ≡ 0
 room-suffices log used x a b c = first-none (addRows log used x) refl .1 (λ i. noneOf ((8, a i) ∷ (15, b i) ∷ (14, (c i && noneLeft log used)) ∷ []))
 
--- a power-up opens a block also after an empty one: it goes by no count
-pub opens-always : (log : List ℕ) (used : ℕ) → unsound log used ≡ false → noneLeft log used ≡ false → powerUpRefusal log used ≡ 0
-opens-always log used a b = first-none (powerUpRows log used) refl .1 (λ i. noneOf ((15, a i) ∷ (14, b i) ∷ []))
+-- a power-up opens a block also after an empty one, while a block is left and the last number is below 4294967295
+pub opens-always : (log : List ℕ) (n : ℕ) → unsound log (suc n) ≡ false → count (block log n) ≡ 0 → suc n < blocks log
+    → number (block log n) < 4294967295 → powerUpRefusal log (suc n) ≡ 0
+opens-always log n good empty room small =
+    let l : leb (blocks log) (suc n) ≡ false = lt-leb (blocks log) (suc n) room in
+    let e : eqb (number (block log n)) 4294967295 ≡ false = ne-eqb (number (block log n)) 4294967295 (λ q. omega (arith, q, small)) in
+    first-none (powerUpRows log (suc n)) refl .1 (λ i. noneOf ((15, good i) ∷ (14, (l i || e i)) ∷ []))
 
 -- unused memory may hold anything: logs that agree in their used blocks are sound together and have the same samples
 module _ (log t : List ℕ) (used : ℕ) (long : length t ≡ length log) (fits : blockSize * used ≤ length log)

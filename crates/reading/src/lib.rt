@@ -8,10 +8,10 @@ ghost use lib.Dec.{eqb};
 ghost use lib.ListN.{length};
 ghost use Rattle.laws.specs.Tests.{if_then_else_, firstOf, within};
 ghost use Rattle.laws.specs.Lists.{at, patch};
-ghost use Rattle.model.specs.Ports.{read};
-ghost use Rattle.model.specs.Map.{stateSize, recordSize, pageAt, highMasks, highMaskOf, statusAt};
+ghost use Rattle.model.specs.Ports.{read, caller};
+ghost use Rattle.model.specs.Map.{stateSize, recordSize, pageAt, base, flags, highMasks, highMaskOf, statusAt};
 ghost use Rattle.model.specs.Refusals.{readRows};
-ghost use Rattle.model.specs.Reading.{statusByte, seen};
+ghost use Rattle.model.specs.Reading.{statusByte, seen, cleared};
 ghost use Rattle.model.specs.Bytes.{memoryOf, recordOf, refusalOf};
 ghost use Rattle.model.specs.Contracts.{ReadDone};
 ghost use Rattle.address.specs.Meaning.{storedAt};
@@ -143,6 +143,14 @@ fn look(out: &mut [u8], a: usize, n: usize, state: &[u8], base: Place, page: u8)
     put_own(out, a, n, state, base);
 }
 
+// Clears the flags of the `n` addresses from `a` on for `port`, and for no other.
+fn clear_own(state: &mut [u8], port: u64, a: usize, n: usize)
+    requires { ⌜ (length (now state) ≡ stateSize) × (a + n ≤ 256) ⌝ }
+    ensures { λ _. ⌜ now (state .exit) ≡ patch (base (caller port)) (flags .many) (cleared a n (recordOf (now (state .entry)) (base (caller port)))) (now (state .entry)) ⌝ }
+{
+    record::clear(state, address::record_of(port), a, n);
+}
+
 // An accepted read: the bytes out, then the flags of the run cleared for this port alone, then its count.
 fn accept(state: &mut [u8], port: u64, address: u64, count: u64, out: &mut [u8]) -> u8
     requires { ⌜ refusalOf (now state) (read port address count (now out)) ≡ 0 ⌝ }
@@ -151,7 +159,7 @@ fn accept(state: &mut [u8], port: u64, address: u64, count: u64, out: &mut [u8])
     let base = address::record_of(port);
     let page = record::page_of(state, base);
     look(out, address as usize, count as usize, state, base, page);
-    record::clear(state, base, address as usize, count as usize);
+    clear_own(state, port, address as usize, count as usize);
     record::count_of(state, base)
 }
 

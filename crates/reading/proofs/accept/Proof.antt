@@ -20,8 +20,8 @@ page-of-requires c κs = let t = taken (c .before) in search needs
 look-requires : tie.Need-look-requires
 look-requires c κs = let t = taken (c .before .before .before .before) in search needs
 
-clear-requires : tie.Need-clear-requires
-clear-requires c κs = let t = taken (c .before .before .before .before .before .before .before .before) in search needs
+clear-own-requires : tie.Need-clear-own-requires
+clear-own-requires c κs = let t = taken (c .before .before .before .before .before .before .before .before) in search needs
 
 count-of-requires : tie.Need-count-of-requires
 count-of-requires c κs =
@@ -38,7 +38,8 @@ returns c =
     let l = c .before .before .before .before in
     let o = l .before .before .before .before in
     let k = o .before .before .before .before .before in
-    read-done _ _ _ _ _ (k .before .before .before .pre) _ _ _ _ (k .record-of .ensures .0) (l .clear .ensures) (c .count-of .ensures) (o .look .ensures)
+    let e = k .record-of .ensures .0 in
+    read-done _ _ _ _ _ (k .before .before .before .pre) _ _ _ _ e (rw e (l .clear-own .ensures)) (c .count-of .ensures) (o .look .ensures)
 
 pub accept-spec : {M : Type 1} → statement M
 accept-spec =
@@ -47,7 +48,7 @@ accept-spec =
     record-of-requires
     page-of-requires
     look-requires
-    clear-requires
+    clear-own-requires
     count-of-requires
     same-length
     same-length-2
