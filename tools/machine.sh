@@ -4,6 +4,7 @@
 #                             on a system with apt-get
 #   compile WORDS ..          the C compiler for x86-64, which is what the library is compiled for
 #   compile_cpp WORDS ..      the C++ compiler for x86-64
+#   copy_object WORDS ..      objcopy for x86-64
 #   run PROGRAM WORDS ..      runs an x86-64 program: as it is, or on Arm under the toolchain's emulator
 #   emulator                  prints the path of that emulator; where `run` does not emulate, nothing
 #   EMULATED                  1 where `run` emulates, else empty
@@ -40,12 +41,14 @@ x86_64)
     EMULATED=
     compile() { need gcc gcc libc6-dev && gcc "$@"; }
     compile_cpp() { need g++ g++ && g++ "$@"; }
+    copy_object() { need objcopy binutils && objcopy "$@"; }
     emulator() { :; }
     run() { "$@"; }
     ;;
 aarch64)
     EMULATED=1
     compile() { need x86_64-linux-gnu-gcc gcc-x86-64-linux-gnu libc6-dev-amd64-cross && x86_64-linux-gnu-gcc -static "$@"; }
+    copy_object() { need x86_64-linux-gnu-objcopy binutils-x86-64-linux-gnu && x86_64-linux-gnu-objcopy "$@"; }
     # g++ would add -lm, and the libm.a of Debian 12's libc6-dev-amd64-cross names files that are elsewhere.
     compile_cpp() {
         need x86_64-linux-gnu-g++ g++-x86-64-linux-gnu libc6-dev-amd64-cross && x86_64-linux-gnu-gcc -static "$@" -lstdc++
