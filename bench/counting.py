@@ -34,11 +34,11 @@ def program(engine, *words):
     return run(*([EMULATOR] if EMULATOR else []), f"{WORK}/{engine}", *words).stdout
 
 
-def emulated(words):
-    """The instructions of a run under the emulator. It says how it translates a stretch of code, with a mark for each
+def emulated(words, status=0, **how):
+    """The instructions of a run under the emulator that ends with this status. It says how it translates a stretch of code, with a mark for each
     instruction, right before the stretch first runs; and it says each time that a stretch runs, by where the translation lies."""
     log = ("-d", "exec,nochain,op", "-D", "/dev/stderr")  # which, named as a file, is not written to line by line
-    emulator = subprocess.Popen([EMULATOR, *log, *words], stderr=subprocess.PIPE)
+    emulator = subprocess.Popen([EMULATOR, *log, *words], **how | {"stderr": subprocess.PIPE})
     marked, total, lengths = 0, 0, {}
     with emulator.stderr:
         for line in emulator.stderr:
@@ -49,7 +49,7 @@ def emulated(words):
                 total += lengths[place]
             elif line.startswith(b" ---- "):
                 marked += 1
-    if emulator.wait() != 0:
+    if emulator.wait() != status:
         stop(2, f"{' '.join(words)}: status {emulator.returncode}")
     return total
 

@@ -1,11 +1,10 @@
 /* json.c: see json.h. */
 #include "json.h"
+#include "decimals.h"
 #include "dump.h"
 
-#include <float.h>
 #include <inttypes.h>
 #include <stdio.h>
-#include <stdlib.h>
 #include <string.h>
 
 static void new_line(const struct json *json)
@@ -73,7 +72,9 @@ void json_key(struct json *json, const char *key)
         fputs(json->listed ? ", " : ",", stdout);
     if (!json->listed)
         new_line(json);
-    printf("\"%s\": ", key);
+    putchar('"');
+    fputs(key, stdout);
+    fputs("\": ", stdout);
 }
 
 void json_null(struct json *json)
@@ -88,17 +89,6 @@ void json_bool(struct json *json, bool value)
     fputs(value ? "true" : "false", stdout);
 }
 
-void print_number(double value)
-{
-    char text[32];
-    int digits = DBL_DIG; /* a decimal of so many digits comes out as it went in; zeros at the end are left out in any case */
-
-    do
-        snprintf(text, sizeof text, "%.*g", digits, value);
-    while (strtod(text, NULL) != value && digits++ < 17);
-    fputs(text, stdout);
-}
-
 void json_number(struct json *json, double value)
 {
     before(json);
@@ -111,17 +101,24 @@ void json_whole(struct json *json, uint64_t number)
     printf("%" PRIu64, number);
 }
 
+static bool stands_for_itself(uint8_t byte, bool utf8)
+{
+    return byte != '"' && byte != '\\' && (printable(byte) || (utf8 && byte >= 0x80));
+}
+
 static void quoted(struct json *json, const uint8_t *bytes, size_t len, bool utf8)
 {
     before(json);
     putchar('"');
-    for (size_t i = 0; i < len; i++)
-        if (bytes[i] == '"' || bytes[i] == '\\')
-            printf("\\%c", bytes[i]);
-        else if (printable(bytes[i]) || (utf8 && bytes[i] >= 0x80))
-            putchar(bytes[i]);
-        else
-            printf("\\u%04X", bytes[i]);
+    for (size_t at = 0; at < len; at++) {
+        size_t plain = 0;
+        while (at + plain < len && stands_for_itself(bytes[at + plain], utf8))
+            plain++;
+        fwrite(bytes + at, 1, plain, stdout);
+        at += plain;
+        if (at < len)
+            printf(bytes[at] == '"' || bytes[at] == '\\' ? "\\%c" : "\\u%04X", bytes[at]);
+    }
     putchar('"');
 }
 

@@ -22,12 +22,9 @@ void json_end(struct json *json);                 /* the last one closes the lin
 void json_key(struct json *json, const char *key); /* in an object, before each value */
 void json_null(struct json *json);
 void json_bool(struct json *json, bool value);
-void json_number(struct json *json, double value); /* as print_number does */
+void json_number(struct json *json, double value); /* the shortest decimal, as print_number has it */
 void json_whole(struct json *json, uint64_t number);
 void json_bytes(struct json *json, const uint8_t *bytes, size_t len); /* as text; what isn't printable ASCII as \u00XX */
 void json_words(struct json *json, const char *words); /* text in UTF-8, as a file's name is */
-
-/* The shortest decimal that reads back as the same double. */
-void print_number(double value);
 
 #endif

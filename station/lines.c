@@ -12,6 +12,13 @@ char *line_name(unsigned bit, char *name, size_t room)
     return flag_name(FLAGS_AT + bit / 8, bit % 8, name, room);
 }
 
+const char *line_kept(unsigned bit)
+{
+    static char names[LINES][NAME_ROOM];
+
+    return names[bit][0] ? names[bit] : line_name(bit, names[bit], sizeof names[bit]);
+}
+
 /* Four lines of a kind, one after the other; each name begins with its line's "Rx3". */
 char *line_word(unsigned bit, char *word, size_t room)
 {

@@ -18,6 +18,7 @@ char *line_word(unsigned bit, char *word, size_t room);
 
 /* Its name, such as "Rx3 loss of signal", as flag_name has it; NAME_ROOM is room enough. */
 char *line_name(unsigned bit, char *name, size_t room);
+const char *line_kept(unsigned bit); /* the same, made once: for one sample after the other */
 
 /* Whether a sample has its bit. */
 static inline bool line_of(const uint8_t *sample, unsigned bit)

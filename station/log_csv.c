@@ -1,6 +1,6 @@
 /* log_csv.c: the form of a log for spreadsheets: RFC 4180, with a line of names. No field has a comma, a quote or a line's end in
  * it, so that none is quoted. */
-#include "json.h"
+#include "decimals.h"
 #include "log_show.h"
 
 #include <inttypes.h>
@@ -20,7 +20,6 @@ static void begin(struct log_view *view)
 static void row_line(const struct log_row *row)
 {
     const char *between = "";
-    char name[NAME_ROOM];
 
     printf("%" PRIu64 ",%" PRIu64, row->position, row->number);
     for (unsigned m = 0; m < MONITORS; m++) {
@@ -31,7 +30,8 @@ static void row_line(const struct log_row *row)
     putchar(',');
     for (unsigned place = 0; place < LINES; place++)
         if (line_of(row->sample, line_shown(place))) {
-            printf("%s%s", between, line_name(line_shown(place), name, sizeof name));
+            fputs(between, stdout);
+            fputs(line_kept(line_shown(place)), stdout);
             between = "; ";
         }
     fputs("\r\n", stdout);

@@ -70,10 +70,13 @@ static void numbers(const struct log_row *row)
 
 static void row_line(const struct log_row *row)
 {
-    char hex[2 * ZIKHRODAN_SAMPLE_LEN + 1], name[NAME_ROOM];
+    static const char hex_digits[] = "0123456789ABCDEF";
+    char hex[2 * ZIKHRODAN_SAMPLE_LEN + 1] = "";
 
-    for (unsigned i = 0; i < ZIKHRODAN_SAMPLE_LEN; i++)
-        snprintf(hex + 2 * i, 3, "%02X", row->sample[i]);
+    for (unsigned i = 0; i < ZIKHRODAN_SAMPLE_LEN; i++) {
+        hex[2 * i] = hex_digits[row->sample[i] >> 4];
+        hex[2 * i + 1] = hex_digits[row->sample[i] & 15];
+    }
     json_begin(&json, '{');
     json_key(&json, "position");
     json_whole(&json, row->position);
@@ -85,7 +88,7 @@ static void row_line(const struct log_row *row)
     json_begin(&json, '[');
     for (unsigned place = 0; place < LINES; place++)
         if (line_of(row->sample, line_shown(place)))
-            json_words(&json, line_name(line_shown(place), name, sizeof name));
+            json_words(&json, line_kept(line_shown(place)));
     json_end(&json);
     numbers(row);
     json_end(&json);

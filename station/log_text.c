@@ -1,4 +1,5 @@
 /* log_text.c: the form of a log for people: a line that sums it up, and a table. */
+#include "decimals.h"
 #include "log_show.h"
 #include "say.h"
 
@@ -30,19 +31,18 @@ static void begin(struct log_view *view)
 static void print_status(const uint8_t *sample)
 {
     const char *between = "  ";
-    char name[NAME_ROOM];
 
     for (unsigned place = 0; place < LINES; place++) {
         bool all = place % 4 == 0;
         for (unsigned i = 0; i < 4 && all; i++)
             all = line_of(sample, line_shown(place + i));
-        line_name(line_shown(place), name, sizeof name);
+        if (!line_of(sample, line_shown(place)))
+            continue;
+        const char *name = line_kept(line_shown(place));
         if (all)
             printf("%s%.2s1-4%s", between, name, name + 3);
-        else if (line_of(sample, line_shown(place)))
-            printf("%s%s", between, name);
         else
-            continue;
+            printf("%s%s", between, name);
         between = ", ";
         place += all ? 3 : 0;
     }
@@ -56,7 +56,7 @@ static void row_line(const struct log_row *row)
         if (kind == ZIKHRODAN_NOTHING)
             printf("%*s", WIDTHS[quantity_of(m)], "-");
         else
-            printf("%*.*f", WIDTHS[quantity_of(m)], UNIT_DECIMALS[kind], row->values[m]);
+            print_fixed(WIDTHS[quantity_of(m)], UNIT_DECIMALS[kind], row->values[m]);
     }
     fputs(paint(BAD), stdout);
     print_status(row->sample);

@@ -8,6 +8,7 @@ import sys
 import tempfile
 from pathlib import Path
 
+import decimals
 import died
 import died_hours
 import disk
@@ -15,6 +16,7 @@ import examples
 import keys
 import kills
 import links
+import log_costs
 import log_hardships
 import log_kills
 import log_outputs
@@ -36,8 +38,9 @@ import together
 from bench import Checks
 
 PARTS = {part.__name__: part for part in (rules, manual, stored, examples, keys, outputs, disk, synced, kills, together, pauses,
-                                           links, terminals, log_kills, log_power, log_together, log_hardships, log_outputs, died,
-                                           died_hours, report, report_whole, report_drawn, report_looks, report_hardships)}
+                                           links, terminals, log_kills, log_power, log_together, log_hardships, log_outputs,
+                                           log_costs, decimals, died, died_hours, report, report_whole, report_drawn,
+                                           report_looks, report_hardships)}
 
 
 def main(names):
