@@ -1,6 +1,8 @@
 /* call.c: calls and lists of calls. */
 #include "call.h"
 
+#include "sums.h"
+
 #include <stdio.h>
 #include <stdlib.h>
 #include <string.h>
@@ -108,6 +110,7 @@ void list_begin(struct list *list, struct bytes state, enum place place)
     list->place = place;
     list->state = state;
     copied(list, state);
+    sum_state(state, place);
 }
 
 void list_add(struct list *list, const struct call *call)
@@ -117,6 +120,7 @@ void list_add(struct list *list, const struct call *call)
     entry->call = *call;
     entry->first = copied(list, call->first);
     entry->second = copied(list, call->second);
+    sum_call(call);
 }
 
 /* The bytes as they were when they were copied to `at`. */

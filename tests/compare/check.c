@@ -3,6 +3,7 @@
 
 #include "both.h"
 #include "engines.h"
+#include "sums.h"
 #include "text.h"
 
 #include <inttypes.h>
@@ -97,6 +98,13 @@ void say(const char *format, ...)
     va_end(arguments);
 }
 
+void drawn_as(uint64_t sum)
+{
+    if (options.seed == SEED && sum_is_whole() && sum_of_calls() != sum)
+        fail("its first %d calls are others than on other machines: their sum is 0x%" PRIx64 ", not 0x%" PRIx64, SUMMED,
+             sum_of_calls(), sum);
+}
+
 void count_calls(uint64_t more)
 {
     calls += more;
@@ -137,6 +145,7 @@ bool check_run(const char *name, void (*group)(void))
     group_name = name;
     printer = print_case;
     calls = 0;
+    sum_begin();
     words[0] = 0;
     if (!setjmp(group_end)) {
         group();

@@ -4,10 +4,11 @@
 
 #include "call.h"
 
+enum { SEED = 1 };  /* if it isn't told another one */
+
 /* What the program was told. */
 struct options {
     uint64_t seed, calls, pairs;    /* of the random groups */
-    unsigned seconds;               /* if it isn't 0, for the histories instead of `calls` */
     uint8_t image[640];             /* the real factory image */
 };
 extern struct options options;
@@ -28,6 +29,10 @@ void try_expecting(struct call call, unsigned refusal);
 /* The group fails, with these words; a mismatch also prints the case, if it is the first of all. */
 _Noreturn void fail(const char *words, ...) __attribute__((format(printf, 1, 2)));
 _Noreturn void mismatch(const char *words, ...) __attribute__((format(printf, 1, 2)));
+
+/* The group's first calls, SUMMED of them, by the seed that nobody chose and for the real image, have this sum: the order in which
+ * they are drawn is in no compiler's choice. To be said at the group's end. */
+void drawn_as(uint64_t sum);
 
 /* For a group that makes its calls by itself: how many, and what prints its case. */
 void count_calls(uint64_t calls);

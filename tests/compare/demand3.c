@@ -181,6 +181,7 @@ void group_demand_3(void)
         vary_operator();
         drop_recorder();
     }
+    drawn_as(0xcfda14e1af477680);
     if (!excused_differed || !varied || !dropped || !records_differed)
         fail("it is idle: no shared byte differed, no call was varied or dropped, or no dropped call mattered");
     say(" in %" PRIu64 " pairs of runs; %" PRIu64 " operator calls varied, %" PRIu64 " shared bytes read by the recorder, "

@@ -20,8 +20,14 @@ static struct bytes of_length(const uint8_t *at, size_t right, size_t room, unsi
 /* Anything: as likely a few bits as many, and as likely just below 2^64. */
 static uint64_t any_number(void)
 {
-    uint64_t number = random_number() >> random_below(64);
+    uint64_t number = random_size();
     return chance(50) ? number : -number;
+}
+
+/* A number, or one of the next. */
+static uint64_t beside(uint64_t number, unsigned more)
+{
+    return number + random_below(more);
 }
 
 void some_image(uint8_t *image)
@@ -30,8 +36,10 @@ void some_image(uint8_t *image)
         random_fill(image, IMAGE_LEN);
     else
         real_image(image);
-    for (unsigned i = chance(50) ? random_below(20) : 0; i; i--)
-        image[random_below(IMAGE_LEN)] = (uint8_t)random_number();
+    for (unsigned i = chance(50) ? random_below(20) : 0; i; i--) {
+        unsigned at = random_below(IMAGE_LEN);
+        image[at] = (uint8_t)random_number();
+    }
     set_configuration(image, chance(60) ? 6 : random_below(CONFIGURATIONS));
     if (chance(30))
         image[OFFERED_AT] ^= 4;
@@ -61,8 +69,10 @@ struct call some_reset(void)
 {
     static uint8_t image[2 * IMAGE_LEN];
     some_image(image);
-    if (chance(15))
-        image[chance(50) ? 191 : 223] ^= (uint8_t)(1 << random_below(8));
+    if (chance(15)) {
+        unsigned at = chance(50) ? 191 : 223;
+        image[at] ^= (uint8_t)(1 << random_below(8));
+    }
     return a_reset(of_length(image, IMAGE_LEN, sizeof image, 10));
 }
 
@@ -73,8 +83,10 @@ struct call some_sample(const uint8_t *state)
         sample[i] = (uint8_t)(chance(50) ? 0 : random_number() & random_number());
     for (unsigned number = 0; number < NUMBERS; number++) {
         unsigned value = (unsigned)random_number();
-        if (state && chance(85))
-            value = number_at(state + limits_place(quantity_of(number)) + 2 * random_below(4)) + random_below(3) - 1;
+        if (state && chance(85)) {
+            value = number_at(state + limits_place(quantity_of(number)) + 2 * random_below(4)) - 1;
+            value += random_below(3);
+        }
         put_number(sample + 3 + 2 * number, value);
     }
     return a_sample(of_length(sample, SAMPLE_LEN, sizeof sample, 4));
@@ -97,7 +109,7 @@ struct call some_read(uint64_t port)
     if (chance(30) && address < 256)
         count = 256 - address < 128 ? 256 - address : 128;
     if (chance(3))
-        count = chance(50) ? random_below(3) * 128 + random_below(2) : any_number();
+        count = chance(50) ? beside(128 * random_below(3), 2) : any_number();
     if (chance(2))
         address = chance(50) ? 250 + random_below(10) : any_number();
     size_t len = count > 1000 ? random_below(300) : (size_t)count;
@@ -128,7 +140,7 @@ struct call some_write(uint64_t port)
     if (chance(4))
         len = random_below(7);
     if (chance(2))
-        address = chance(50) ? 120 + random_below(10) + 128 * random_below(2) : any_number();
+        address = chance(50) ? beside(120 + 128 * random_below(2), 10) : any_number();
     random_fill(data, sizeof data);
     if (chance(30))
         memset(data, chance(50) ? 0 : 0xff, sizeof data);
@@ -142,8 +154,10 @@ static struct bytes some_page(const uint8_t *state, uint8_t *page)
     random_fill(page, 2 * PAGE_LEN);
     if (state && chance(60))
         memcpy(page, state + PAGE_00_AT, PAGE_LEN);
-    for (unsigned i = random_below(3); i; i--)
-        memset(page + random_below(PAGE_LEN), chance(70) ? 0x20 : 0, random_below(16));
+    for (unsigned i = random_below(3); i; i--) {
+        unsigned at = random_below(PAGE_LEN), byte = chance(70) ? 0x20 : 0;
+        memset(page + at, (int)byte, random_below(16));
+    }
     if (chance(70))
         set_codes(page);
     return of_length(page, PAGE_LEN, 2 * PAGE_LEN, 10);

@@ -9,7 +9,6 @@
 
 #include <inttypes.h>
 #include <string.h>
-#include <time.h>
 
 enum { REFUSALS = 13 };
 
@@ -53,13 +52,6 @@ static void history(void)
         step(whole ? both_state() : NULL);
 }
 
-static double seconds_now(void)
-{
-    struct timespec now;
-    clock_gettime(CLOCK_MONOTONIC, &now);
-    return (double)now.tv_sec + (double)now.tv_nsec / 1e9;
-}
-
 static void report(uint64_t histories)
 {
     char line[700];
@@ -82,14 +74,14 @@ static void report(uint64_t histories)
 void group_histories(void)
 {
     uint64_t histories = 0;
-    double end = seconds_now() + options.seconds;
     random_seed(options.seed);
     made = 0;
     memset(accepted, 0, sizeof accepted);
     memset(refused, 0, sizeof refused);
     memset(refusals, 0, sizeof refusals);
-    for (; options.seconds ? seconds_now() < end : made < options.calls; histories++)
+    for (; made < options.calls; histories++)
         history();
     place_at(AT_END);
+    drawn_as(0x5481c90acd3efd60);
     report(histories);
 }

@@ -39,19 +39,19 @@ void set_block_number(uint8_t *block, uint32_t number)
     put_number(block + 2, number);
 }
 
-static void fill_by_turns(uint8_t *at, size_t len)
+static void fill_by_chance(uint8_t *at, size_t len)
 {
-    static unsigned turn;
+    unsigned turn = random_below(3);
     random_fill(at, len);
-    if (++turn % 3)
-        memset(at, turn % 3 == 1 ? 0xff : 0, len);
+    if (turn)
+        memset(at, turn == 1 ? 0xff : 0, len);
 }
 
 static uint8_t drawn[2 * SAMPLE_LEN];
 
 struct bytes log_sample(void)
 {
-    fill_by_turns(drawn, sizeof drawn);
+    fill_by_chance(drawn, sizeof drawn);
     return (struct bytes){ drawn, SAMPLE_LEN };
 }
 
@@ -114,7 +114,7 @@ void make_log(uint8_t *log, unsigned used, uint32_t first, unsigned count)
 uint8_t *log_memory(void)
 {
     static uint8_t log[REGION];
-    fill_by_turns(log, (MOST_BLOCKS + 1) * BLOCK_LEN);
+    fill_by_chance(log, (MOST_BLOCKS + 1) * BLOCK_LEN);
     return log;
 }
 

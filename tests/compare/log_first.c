@@ -75,7 +75,8 @@ static void sound_logs(void)
     for (unsigned i = 0; i < 400; i++) {
         uint8_t *log = log_memory();
         unsigned blocks = random_below(MOST_BLOCKS + 1);
-        make_log(log, blocks, random_below(3), random_below(BLOCK_SAMPLES + 1));
+        unsigned first = random_below(3), count = random_below(BLOCK_SAMPLES + 1);
+        make_log(log, blocks, first, count);
         begin_log(log, blocks * BLOCK_LEN);
         read_and_ask(random_below(blocks + 1));
     }

@@ -9,9 +9,8 @@
 
 #include <inttypes.h>
 #include <string.h>
-#include <time.h>
 
-enum { PART = 6, FEWER = 10 };  /* the seconds, or the calls, are that part of those of the module's histories */
+enum { FEWER = 10 };  /* the calls are that part of those of the module's histories */
 
 static uint64_t made, accepted[KINDS], refused[KINDS], refusals[256];
 
@@ -55,7 +54,7 @@ static void beginning(void)
 /* A used number, mostly not the log's own. With a lower one the call may be accepted, and then the log goes on from there. */
 static uint64_t other_used(void)
 {
-    return chance(40) ? used + 1 : chance(50) ? random_below(MOST_BLOCKS + 2) : random_number() >> random_below(64);
+    return chance(40) ? used + 1 : chance(50) ? random_below(MOST_BLOCKS + 2) : random_size();
 }
 
 static void damage_or_heal(void)
@@ -111,13 +110,6 @@ static void step(void)
     }
 }
 
-static double seconds_now(void)
-{
-    struct timespec now;
-    clock_gettime(CLOCK_MONOTONIC, &now);
-    return (double)now.tv_sec + (double)now.tv_nsec / 1e9;
-}
-
 static void report(uint64_t histories)
 {
     static const uint8_t numbers[] = { 8, 14, 15, 17 };
@@ -141,17 +133,17 @@ static void report(uint64_t histories)
 void group_log_histories(void)
 {
     uint64_t histories = 0;
-    double end = seconds_now() + (double)options.seconds / PART;
     random_seed(options.seed);
     made = 0;
     memset(accepted, 0, sizeof accepted);
     memset(refused, 0, sizeof refused);
     memset(refusals, 0, sizeof refusals);
-    for (; options.seconds ? seconds_now() < end : made < options.calls / FEWER; histories++) {
+    for (; made < options.calls / FEWER; histories++) {
         beginning();
         for (size_t steps = 1 + random_below(12 + 16 * (unsigned)len / BLOCK_LEN); steps; steps--)
             step();
     }
     place_at(AT_END);
+    drawn_as(0x93473f563c5379c9);
     report(histories);
 }

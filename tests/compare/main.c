@@ -1,11 +1,11 @@
 /* compare: makes the same calls on the library and on the plain engine, and compares all that they answer and leave behind.
  *
- *   compare [--calls N | --seconds N] [--pairs N] [--seed N] [--first] [--only GROUP] IMAGE
+ *   compare [--calls N] [--pairs N] [--seed N] [--first] [--only GROUP] IMAGE
  *   compare again FILE
  *
- * IMAGE is a factory image, 640 two-digit hexadecimal numbers. --calls and --seconds are for the module's random histories, and
- * those of a log take a part as much; --pairs is for the pairs of runs of demand 3; --first ends at the first group that fails.
- * `again` reads what is printed of a mismatch. */
+ * IMAGE is a factory image, 640 two-digit hexadecimal numbers. --calls is for the module's random histories, and those of a log
+ * make a part as many; --pairs is for the pairs of runs of demand 3; --first ends at the first group that fails. `again` reads what
+ * is printed of a mismatch. */
 #include "again.h"
 #include "check.h"
 #include "groups.h"
@@ -61,8 +61,7 @@ void group_odd(void)
 
 static _Noreturn void usage(void)
 {
-    fputs("usage: compare [--calls N | --seconds N] [--pairs N] [--seed N] [--first] [--only GROUP] IMAGE | again FILE\n",
-          stderr);
+    fputs("usage: compare [--calls N] [--pairs N] [--seed N] [--first] [--only GROUP] IMAGE | again FILE\n", stderr);
     exit(2);
 }
 
@@ -113,12 +112,10 @@ int main(int count, char **words)
         check_prepare();
         return again(words[2]);
     }
-    options = (struct options){ .seed = 1, .calls = 2000000, .pairs = 10000 };
+    options = (struct options){ .seed = SEED, .calls = 2000000, .pairs = 10000 };
     for (char **word = words + 1; *word; word++) {
         if (!strcmp(*word, "--calls"))
             options.calls = number(*++word, UINT64_MAX);
-        else if (!strcmp(*word, "--seconds"))
-            options.seconds = (unsigned)number(*++word, 1000000);
         else if (!strcmp(*word, "--pairs"))
             options.pairs = number(*++word, UINT64_MAX);
         else if (!strcmp(*word, "--seed"))

@@ -18,6 +18,12 @@ uint64_t random_number(void)
     return mixed ^ mixed >> 31;
 }
 
+uint64_t random_size(void)
+{
+    uint64_t number = random_number();
+    return number >> random_below(64);
+}
+
 unsigned random_below(unsigned limit)
 {
     return (unsigned)((random_number() >> 32) * limit >> 32);

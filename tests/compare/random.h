@@ -1,4 +1,5 @@
-/* random.h: random numbers that are the same on each machine (splitmix64). */
+/* random.h: random numbers that are the same on each machine (splitmix64). C leaves open which operand, or which argument of a call,
+ * comes first: no expression draws in two of them, unless they may change places. */
 #ifndef RANDOM_H
 #define RANDOM_H
 
@@ -8,6 +9,9 @@
 
 void random_seed(uint64_t seed);
 uint64_t random_number(void);
+
+/* As likely of a few bits as of many. */
+uint64_t random_size(void);
 
 /* Below `limit`, which is small and not 0. */
 unsigned random_below(unsigned limit);

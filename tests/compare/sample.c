@@ -78,7 +78,8 @@ static void random_samples(void)
 {
     uint8_t state[STATE_LEN], sample[SAMPLE_LEN];
     for (int i = 0; i < 20000; i++) {
-        random_state(state, random_below(4), random_below(4));
+        unsigned operator_page = random_below(4), recorder_page = random_below(4);
+        random_state(state, operator_page, recorder_page);
         random_fill(sample, SAMPLE_LEN);
         take(state, sample);
     }
