@@ -1,5 +1,6 @@
 """bench.py: the module's process, the tools under the shim, and the counting of checks."""
 import os
+import signal
 import socket
 import struct
 import subprocess
@@ -87,6 +88,17 @@ def difference(expected, seen):
         places = [(at, *pair) for at, pair in enumerate(zip(expected, seen)) if pair[0] != pair[1]]
         return ", ".join(f"at {at} expected {one:02X}, seen {other:02X}" for at, one, other in places[:8])
     return f"expected {expected!r}, seen {seen!r}"
+
+
+def settle():
+    """What a shell hands on is not handed on: signals that are ignored under nohup or in the background of a script, or that are
+    blocked, and the umask. Who ignores a signal here still does, by a handler, which what is started does not have."""
+    for number in (signal.SIGHUP, signal.SIGINT, signal.SIGQUIT):
+        if signal.getsignal(number) == signal.SIG_IGN:
+            signal.signal(number, lambda *_: None)
+    signal.signal(signal.SIGCHLD, signal.SIG_DFL)
+    signal.pthread_sigmask(signal.SIG_SETMASK, [])
+    os.umask(0o022)
 
 
 class Checks:

@@ -15,11 +15,12 @@ import with_dumps
 import with_ethtool
 import with_i2c
 import with_registers
-from bench import Checks, Module
+from bench import Checks, Module, settle
 
 
 def main():
     checks = Checks()
+    settle()
     signal.signal(signal.SIGTERM, lambda *_: sys.exit(2))  # so that the module and its folder go
     with tempfile.TemporaryDirectory(prefix="clients") as folder:
         module = Module(Path(folder) / "module")

@@ -57,10 +57,15 @@ static uint64_t other_used(void)
     return chance(40) ? used + 1 : chance(50) ? random_below(MOST_BLOCKS + 2) : random_size();
 }
 
+/* Mostly with a question before and the same one after, so that an answer that is kept is seen. */
 static void damage_or_heal(void)
 {
+    unsigned bit = random_below(STATUS_BITS);
+    bool asks = chance(80);
     if (!len)
         return;
+    if (asks)
+        make(a_log_first(used, bit), true);
     if (!damaged) {
         place = random_below((unsigned)len);
         if (chance(40) && len >= BLOCK_LEN) /* a block's count, its summary or what comes after */
@@ -70,6 +75,8 @@ static void damage_or_heal(void)
     }
     try(a_put(place, damaged ? byte : (uint8_t)(byte ^ 1 << random_below(8))));
     damaged = !damaged;
+    if (asks)
+        make(a_log_first(used, bit), true);
 }
 
 static void read_all(void)
@@ -144,6 +151,6 @@ void group_log_histories(void)
             step();
     }
     place_at(AT_END);
-    drawn_as(0x93473f563c5379c9);
+    drawn_as(0xd7543141c87bdadf);
     report(histories);
 }

@@ -13,12 +13,12 @@ from html.parser import HTMLParser
 from pathlib import Path
 
 from pictures import Picture
+from transcript import PATIENCE
 
 WORDS = ["chromium", "--headless=new", "--no-sandbox", "--disable-gpu", "--hide-scrollbars", "--no-first-run",
          "--disable-extensions", "--disable-background-networking", "--force-device-scale-factor=1",
          "--host-resolver-rules=MAP * ~NOTFOUND, EXCLUDE 127.0.0.1", "--proxy-bypass-list=<-loopback>"]
 NOBODY_LISTENS = 9
-PATIENCE = 120
 
 
 def browse(page, *words, port=NOBODY_LISTENS):
@@ -60,7 +60,7 @@ def asked(page):
 
     with socket.create_server(("127.0.0.1", 0)) as door:
         threading.Thread(target=listen, args=(door,), daemon=True).start()
-        browse(page, "--timeout=3000", "--dump-dom", port=door.getsockname()[1])
+        browse(page, "--dump-dom", port=door.getsockname()[1])
     return lines
 
 

@@ -7,7 +7,7 @@ import re
 import subprocess
 
 from station import command
-from transcript import ROOT, Step, Transcript, play_all, scratch, seen
+from transcript import PATIENCE, ROOT, Step, Transcript, play_all, scratch, seen
 
 DOCUMENTS = ("README.md", "docs/OPERATOR.md", "docs/CLIENTS.md")
 KEEP = Step(0, "zikhrodan demo --keep trial >kept")
@@ -22,7 +22,7 @@ EXEMPT = {
 
 
 def helped(word):
-    return subprocess.run(command(*word), capture_output=True, text=True, timeout=120, check=True).stdout
+    return subprocess.run(command(*word), capture_output=True, text=True, timeout=PATIENCE, check=True).stdout
 
 
 def commands_of(text):

@@ -1,18 +1,17 @@
-"""kills.py: the tool is killed at any moment: the state is always a whole one, of before a command or after it."""
+"""kills.py: the tool is ended at any moment: the state is always a whole one, of before a command or after it."""
 import os
 import random
 import select
 import signal
 import subprocess
-import time
 
+import ended
 from feed import sample
 from paper import Paper
-from station import CALM, CHANGES, PATIENCE, SECOND, Kept, settled, start, waits
+from station import CALM, CHANGES, PATIENCE, Kept, settled, start, waits
 from transcript import ROOT
 
-KILLS = 300   # of single commands
-STREAMS = 40  # of commands that are fed row after row
+STREAMS, ROWS = 40, 60  # commands that are fed row after row, and the most rows
 ASKED = (signal.SIGTERM, signal.SIGINT, signal.SIGHUP)
 
 
@@ -25,14 +24,6 @@ def end(process, how=signal.SIGKILL):
     return process.communicate(timeout=PATIENCE)[0]
 
 
-def usual_time(kept):
-    """How long a command takes that nobody kills."""
-    started = time.monotonic()
-    for words in CHANGES:
-        kept.run(*words)
-    return (time.monotonic() - started) / len(CHANGES)
-
-
 def after(state, on_paper):
     paper = Paper()
     paper.state[:] = state
@@ -40,27 +31,26 @@ def after(state, on_paper):
     return bytes(paper.state)
 
 
-def commands(kept, chance, group, hows):
-    """Each command on what the one before left; gives how many were ended before and how many after their change."""
-    usual, before, changed = usual_time(kept), 0, 0
-    for number in range(KILLS):
-        words, on_paper = chance.choice(list(CHANGES.items()))
-        old = kept.path.read_bytes()
-        process = start(kept.folder, words[0], kept.path.name, *words[1:])
-        time.sleep(1.5 * chance.random() ** 2 * usual)  # most of the usual time is the start of a process
-        end(process, chance.choice(hows))
-        left = kept.path.read_bytes()
-        new = after(old, on_paper)
-        group.same(f"{number}, {words}", True, left in (old, new))
-        if left not in (old, new):
-            kept.put()
-        before, changed = before + (left != new), changed + (left == new != old)
+def commands(kept, program, group, how):
+    """Each command, ended before each of its calls; gives how many were ended before and how many after their change."""
+    old, before, changed = bytes(kept.paper.state), 0, 0
+    for words, on_paper in CHANGES.items():
+        new, seen, status = after(old, on_paper), [], None
+        for status, _, _ in ended.each_moment(kept.folder, program, how, words[0], kept.path.name, *words[1:], begin=kept.put):
+            seen.append(kept.path.read_bytes())
+        at = seen.index(new) if new in seen else len(seen)
+        group.same(f"{words}, {how.name}: that of before, and from some call on that of after", True,
+                   seen == [old] * at + [new] * (len(seen) - at))
+        group.same(f"{words}, {how.name}: some are ended before the change, some after it", True, 0 < at < len(seen) - 1)
+        group.same(f"{words}, {how.name}: at last it ends by itself", 0, status)
+        before, changed = before + at, changed + len(seen) - 1 - at
     return before, changed
 
 
 def streams(kept, chance, group):
-    """A command that saves after each row, while rows come in."""
-    rows = [sample(status=(1 << number % 8, number, 0), at0=0x1E00 + number) for number in range(60)]
+    """A command that saves after each row, while rows come in; it is killed when a number of rows is saved, and one more has
+    come."""
+    rows = [sample(status=(1 << number % 8, number, 0), at0=0x1E00 + number) for number in range(ROWS)]
     stopped = set()
     for number in range(STREAMS):
         kept.paper.sample(CALM)
@@ -70,13 +60,14 @@ def streams(kept, chance, group):
             states.append(after(states[-1], lambda paper, row=row: paper.sample(row)))
         process = start(kept.folder, "sample", kept.path.name, "-", stdin=subprocess.PIPE, bufsize=0)
         until = chance.randrange(len(rows))
-        for at, row in enumerate(rows[:until + 1]):
+        for at, row in enumerate(rows[:until]):
             process.stdin.write(row)
-            if at < until:
-                time.sleep(0.001)
+            group.same(f"stream {number}: row {at} is saved", True,
+                       waits(lambda at=at, states=states: kept.path.read_bytes() == states[at + 1]))
+        process.stdin.write(rows[until])
         end(process)
         left = kept.path.read_bytes()
-        group.same(f"stream {number}", True, left in states)
+        group.same(f"stream {number}", True, left in states[until:until + 2])
         stopped.add(states.index(left) if left in states else None)
     return stopped
 
@@ -91,20 +82,20 @@ def by_the_wrapper(kept, group):
         kept.paper.sample(row)
         group.same(f"{how.name}: a row is in the state", True, waits(kept.agrees))
         process.send_signal(how)
-        group.same(f"{how.name}: the tool ends", True, bool(select.select([process.stdout], [], [], 20 * SECOND)[0]))
+        group.same(f"{how.name}: the tool ends", True, bool(select.select([process.stdout], [], [], PATIENCE)[0]))
         end(process)
         group.same(f"{how.name}: its status", -how, process.returncode)
 
 
 def run(folder, checks):
-    kept, chance, before, changed = Kept(folder / "kills"), random.Random(688), 0, 0
-    with checks.group(f"{KILLS} commands ended by SIGTERM, SIGINT, SIGHUP: the same, and nothing is left beside it") as group:
-        before, changed = commands(kept, chance, group, ASKED)
-        group.same("some are ended before their change, some after it", (True, True), (before > 5, changed > 5))
+    kept, program, chance = Kept(folder / "kills"), ended.build(folder / "tool"), random.Random(688)
+    kept.paper.sample(CALM)  # so that each command changes something
+    with checks.group("commands ended by SIGTERM, SIGINT, SIGHUP before each call: the same, and nothing is left beside it") as group:
+        for how in ASKED:
+            commands(kept, program, group, how)
         group.same("other files", [], kept.others())
-    with checks.group(f"{KILLS} commands killed at random moments: the state is that of before, or that of after") as group:
-        before, changed = commands(kept, chance, group, [signal.SIGKILL])
-        group.same("some are killed before their change, some after it", (True, True), (before > 5, changed > 5))
+    with checks.group("commands killed before each call: the state is that of before, or that of after") as group:
+        before, changed = commands(kept, program, group, signal.SIGKILL)
     with checks.group(f"{STREAMS} commands killed while rows come in: the state is that after one of the rows") as group:
         stopped = streams(kept, chance, group)
         group.same("they are killed after different rows", True, len(stopped) > 5)
@@ -113,7 +104,8 @@ def run(folder, checks):
         by_the_wrapper(kept, group)
     with checks.group("after that the tool works, and what a kill left beside the state is never taken for one") as group:
         left = kept.others()
-        group.same("only the tool's own files are left", [], [name for name in left if not name.startswith("module.state.")])
+        group.same("only the tool's own files are left", (True, []),
+                   (len(left) > 0, [name for name in left if not name.startswith("module.state.")]))
         kept.put()
         for words, on_paper in CHANGES.items():
             on_paper(kept.paper)

@@ -6,8 +6,9 @@ import json
 import random
 import signal
 import subprocess
-import time
+from itertools import groupby
 
+import ended
 import logs
 from bench import IMAGE
 from feed import sample
@@ -16,7 +17,7 @@ from paper import Paper
 from recorded import build, recorded
 from station import start, waits, zikhrodan
 
-KILLS, STREAMS, ROOM, GIVEN = 150, 25, 900, 40
+STREAMS, ROOM, GIVEN = 25, 900, 40
 HEAD_CALL = 3  # of those of an add that has new blocks: their write, their sync, the head's write, ..
 DAMAGE = ("zikhrodan: kept.log: a slot of its head is damaged: unless a write was cut off, rows of the last commit may be "
           "missing\n")
@@ -57,48 +58,58 @@ def shown(folder, path, **how):
     return [bytes.fromhex(row["hex"]) for row in json.loads(text)["samples"]] if status == 0 else complaint
 
 
-def adds(folder, chance, group):
-    """Adds of some rows, each on what the one before left; gives how many were killed before their change, and after it. The
-    time that each is given closes in on the moment of the change, whatever else the machine does."""
-    path, left, before, changed, usual = new_log(folder), [], 0, 0, 0.05
-    for number in range(KILLS):
-        new = rows_from(100 * number, chance.choice((1, 2, 40)))
+def adds(folder, program, group):
+    """Adds of some rows and a power-up, ended before each of their calls; gives how many were killed before their change, and
+    after it."""
+    path, before, changed = new_log(folder), 0, 0
+    old = rows_from(0, 20)
+    for count in (0, 1, 2, 40):
+        new, seen = rows_from(100, count), []
         (folder / "new.rows").write_bytes(b"".join(new))
-        process = start(folder, "log", "add", path, "new.rows")
-        time.sleep((0.7 + 0.6 * chance.random()) * usual)
-        said = end(process)
-        seen = look(path)
-        usual *= 1.08 if seen == left else 1 / 1.08
-        group.same(f"add {number}", True, seen in (left, left + new))
-        group.same(f"add {number}, which has said that it is done", True, b"taken" not in said or seen == left + new)
-        before, changed, left = before + (seen == left), changed + (seen == left + new), seen
-    group.same("the tool has the same log", left, shown(folder, path))
+        words = ("log", "add", path.name, "new.rows") if count else ("log", "power-up", path.name)
+        held = (old, 2), (old + new, 2 if 0 < count < 13 else 4 if count else 3)
+        for status, said, call in ended.each_moment(folder, program, signal.SIGKILL, *words, begin=lambda: path.write_bytes(
+                logs.file_of(ROOM, logs.blocks_of(old)))):
+            blocks = logs.read(path.read_bytes())
+            seen.append(([row for _, rows in blocks for row in rows], len(blocks)))
+            group.same(f"{words[1]} of {count}, call {call}: what is said to be done is", True,
+                       not ("taken" in said or "opened" in said) or seen[-1] == held[1])
+        at = seen.index(held[1]) if held[1] in seen else len(seen)
+        group.same(f"{words[1]} of {count}: that of before, and from some call on that of after", True,
+                   seen == [held[0]] * at + [held[1]] * (len(seen) - at))
+        group.same(f"{words[1]} of {count}: some are killed before the change, some after it; at last it ends by itself", (True, 0),
+                   (0 < at < len(seen) - 1, status))
+        group.same(f"{words[1]} of {count}: the tool has the same log", held[1][0], shown(folder, path))
+        before, changed = before + at, changed + len(seen) - 1 - at
     return before, changed
 
 
-def give(process, rows, chance, count, looks):
-    """Gives so many rows, one after the other, and looks meanwhile; then kills. Gives the most that a look has seen."""
-    most = []
-    for row in rows[:count]:
+def give(process, rows, acknowledged, looks):
+    """Gives rows, one after the other, up to a number when the one before is in the log, and then the others at once; kills. Gives
+    what the last look has seen, and whether each row came in."""
+    most, came = [], True
+    for number, row in enumerate(rows[:acknowledged], 1):
         process.stdin.write(row)
-        time.sleep(chance.choice((0, 0.001, 0.01)))
-        most = looks() if chance.randrange(4) == 0 else most
-    most = looks() if chance.randrange(2) else most
+        came = came and waits(lambda number=number: rows[:number] == looks()[-number:])
+        most = looks()
+    process.stdin.write(b"".join(rows[acknowledged:]))
     end(process)
-    return most
+    return most, came
 
 
 def pipes(folder, chance, group):
     """Rows come in on a pipe that pauses."""
     path, had, stopped = new_log(folder), [], set()
     for number in range(STREAMS):
-        rows, count = rows_from(1000 * number, GIVEN), chance.randrange(1, GIVEN + 1)
+        rows = rows_from(1000 * number, chance.randrange(1, GIVEN + 1))
+        acknowledged = chance.randrange(len(rows))
         process = start(folder, "log", "add", path, "-", stdin=subprocess.PIPE, bufsize=0)
-        most = give(process, rows, chance, count, lambda: look(path))
+        most, came = give(process, rows, acknowledged, lambda: look(path))
         seen = look(path)
+        group.same(f"pipe {number}: each row that is waited for comes in", True, came)
         group.same(f"pipe {number}: what was seen is there", most, seen[:len(most)])
-        group.same(f"pipe {number}: no more than was given", (had + rows[:count])[:len(seen)], seen)
-        group.same(f"pipe {number}: what was there before", True, len(seen) >= len(had))
+        group.same(f"pipe {number}: no more than was given", (had + rows)[:len(seen)], seen)
+        group.same(f"pipe {number}: what was there before", True, len(seen) >= len(had) + acknowledged)
         stopped.add(len(seen) - len(had))
         had = seen
     group.same("they are killed after different rows", True, len(stopped) > 3)
@@ -123,18 +134,37 @@ def both(folder, chance, group):
     behind = 0
     for number in range(STREAMS):
         path, states = begun(folder)
-        rows, count = rows_from(0, GIVEN), chance.randrange(1, GIVEN + 1)
+        rows = rows_from(0, chance.randrange(1, GIVEN + 1))
         process = start(folder, "sample", "--log", path, "module.state", "-", stdin=subprocess.PIPE, bufsize=0)
-        most = give(process, rows, chance, count, lambda path=path: look(path))
+        most, came = give(process, rows, chance.randrange(len(rows)), lambda path=path: look(path))
         seen, state = look(path), (folder / "module.state").read_bytes()
+        group.same(f"{number}: each row that is waited for comes in", True, came)
         group.same(f"{number}: what was seen is there", most, seen[:len(most)])
-        group.same(f"{number}: no more than was given", rows[:count][:len(seen)], seen)
+        group.same(f"{number}: no more than was given", rows[:len(seen)], seen)
         state_after(states, rows)
         group.same(f"{number}: the state is that after a row", True, state in states)
         at = states.index(state) if state in states else -1
         group.same(f"{number}: it is not ahead of the log", True, at <= len(seen))
         behind += at < len(seen)
     return behind
+
+
+def log_first(folder, program, group):
+    """A command that feeds both, killed before each of its calls: first the log has the rows, and then the state."""
+    path, states = begun(folder)
+    new, seen = rows_from(8, 20), []
+    (folder / "new.rows").write_bytes(b"".join(new))
+    first, last = states[0], state_after(states, new)[-1]
+
+    def begin():
+        path.write_bytes(logs.file_of(ROOM, []))
+        (folder / "module.state").write_bytes(first)
+
+    for _ in ended.each_moment(folder, program, signal.SIGKILL, "sample", "--log", path.name, "module.state", "new.rows",
+                               begin=begin):
+        seen.append((look(path), (folder / "module.state").read_bytes()))
+    expected = [([], first), (new, first), (new, last)]
+    group.same("what is found, one after the other", True, [pair for pair, _ in groupby(seen)] == expected)
 
 
 def each_call(folder, group, program):
@@ -164,9 +194,11 @@ def each_call(folder, group, program):
 
 def run(folder, checks):
     chance, before, changed, behind = random.Random(31), 0, 0, 0
-    with checks.group(f"{KILLS} adds killed at random moments: the log is that of before, or that of after") as group:
-        before, changed = adds(folder / "adds", chance, group)
-        group.same("some are killed before their change, some after it", (True, True), (before > 5, changed > 5))
+    program = ended.build(folder / "ended")
+    with checks.group("adds and power-ups killed before each call: the log is that of before, or that of after") as group:
+        before, changed = adds(folder / "adds", program, group)
+    with checks.group("a sample with a log killed before each call: neither has the rows, or the log, or both") as group:
+        log_first(folder / "first", program, group)
     with checks.group(f"{STREAMS} adds killed while rows come in: what a look has seen is there, and no row is torn") as group:
         pipes(folder / "pipes", chance, group)
     with checks.group(f"{STREAMS} samples with a log killed while rows come in: the log is not behind the state") as group:

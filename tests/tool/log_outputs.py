@@ -1,11 +1,9 @@
-"""log_outputs.py: no standard output for a command on a log: one line, status 2, and what was to be changed is; and long logs, in
-seconds."""
-import time
-
+"""log_outputs.py: no standard output for a command on a log: one line, status 2, and what was to be changed is; and long logs. What
+these cost is in log_costs.py."""
 from log_hardships import ADD, NEW, OLD, POWER_UP, SAMPLE, SHOWS, kept
 from log_kills import look, rows_from
 from outputs import WAYS, without_output
-from station import SECOND, zikhrodan
+from station import zikhrodan
 
 
 def outputs(folder, checks):
@@ -20,26 +18,22 @@ def outputs(folder, checks):
             seen = without_output(lambda **lost: zikhrodan(folder, "log", "new", "new.log", 3, **lost), what)
             group.same(f"log new, {what}", (complaint, []), (seen, look(folder / "new.log")))
             (folder / "new.log").unlink()
-    with checks.group("of a log that is long, a form whose output nobody takes ends at once") as group:
+    with checks.group("standard output cannot be written, and the log is long: the same") as group:
         kept(folder, rows_from(0, 60000))
         for words in SHOWS[1:]:
-            started = time.monotonic()
             seen = without_output(lambda words=words, **lost: zikhrodan(folder, *words, **lost), "Broken pipe")
             group.same(words, (2, "", "zikhrodan: standard output: Broken pipe\n"), seen)
-            group.same(f"{words}: at once", True, time.monotonic() - started < 0.5 * SECOND)
 
 
 def many(folder, checks):
-    with checks.group("20000 rows are added in one go, and shown in each form, in seconds") as group:
+    with checks.group("20000 rows are added in one go, and shown in each form") as group:
         folder.mkdir()
         rows = rows_from(0, 20000)
         (folder / "new.rows").write_bytes(b"".join(rows))
         group.same("log new", 0, zikhrodan(folder, "log", "new", "kept.log", 1250)[0])
         for words, lines in ((ADD, 2), *zip(SHOWS[1:], (20004, 21268, 20001, 27, 1, 33))):
-            started = time.monotonic()
             status, said, _ = zikhrodan(folder, *words)
             group.same(words, (0, lines), (status, said.count("\n")))
-            group.same(f"{words}: in seconds", True, time.monotonic() - started < 3 * SECOND)
         group.same("the log", rows, look(folder / "kept.log"))
 
 

@@ -2,13 +2,12 @@
 import fcntl
 import os
 import subprocess
-import time
 from concurrent.futures import ThreadPoolExecutor
 
 import logs
 from feed import sample
 from log_kills import DAMAGE, begun, look, new_log, rows_from, shown
-from station import PATIENCE, SECOND, start, waits, zikhrodan
+from station import PATIENCE, start, wait_in_turn, waits, zikhrodan
 from terminals import Terminal
 
 ADDERS, TIMES, ROWS = 4, 8, 3
@@ -64,10 +63,10 @@ def pausing(folder, checks):
         process = start(folder, "log", "add", path, "-", stdin=subprocess.PIPE, bufsize=0)
         process.stdin.write(rows[0])
         group.same("a row is in the log", True, waits(lambda: look(path) == rows[:1]))
-        group.same("others add", 0, zikhrodan(folder, "log", "add", path, "others.rows", timeout=20 * SECOND)[0])
+        group.same("others add", 0, zikhrodan(folder, "log", "add", path, "others.rows")[0])
         process.stdin.write(rows[1] + rows[2][:7])
         group.same("the next row comes after theirs", True, waits(lambda: look(path) == rows[:1] + others + rows[1:2]))
-        group.same("a look", rows[:1] + others + rows[1:2], shown(folder, path, timeout=20 * SECOND))
+        group.same("a look", rows[:1] + others + rows[1:2], shown(folder, path))
         (folder / "other.log").write_bytes(logs.file_of(3, logs.blocks_of(others[:20], 7)))
         old = path.read_bytes()
         os.replace(folder / "other.log", path)
@@ -108,8 +107,9 @@ def in_turn(folder, checks):
             lock = os.open(path, os.O_RDONLY)
             fcntl.flock(lock, how)
             processes = {name: start(folder, *word) for name, word in words.items()}
-            time.sleep(0.7 * SECOND)
-            group.same("they wait", waiting, [name for name, process in processes.items() if process.poll() is None])
+            group.same("they wait", True, wait_in_turn(*(processes[name] for name in waiting)))
+            group.same("the others end", True, waits(lambda processes=processes, waiting=waiting: waiting == [
+                name for name, process in processes.items() if process.poll() is None]))
             group.same("the log", [], [row for _, rows in logs.read(path.read_bytes()) for row in rows])
             os.close(lock)
             for process in processes.values():
@@ -120,7 +120,7 @@ def in_turn(folder, checks):
         lock = os.open(path, os.O_RDONLY)
         fcntl.flock(lock, fcntl.LOCK_EX)
         terminal = Terminal(folder, *words["show"], on=("stderr",))
-        time.sleep(0.5 * SECOND)
+        group.same("it waits", True, wait_in_turn(terminal.process))
         os.close(lock)
         group.same("on a terminal", "zikhrodan: kept.log: waiting for another command\n", terminal.end()[1])
 

@@ -1,10 +1,9 @@
 """pauses.py: rows that come with pauses: after each the state is saved, and others can have it while the next is waited for."""
 import select
 import subprocess
-import time
 
 from feed import sample
-from station import CALM, LOSS, PATIENCE, SECOND, Kept, start, waits
+from station import CALM, LOSS, PATIENCE, Kept, is_taken, start, waits
 
 ROWS = [sample(status=(1 << number, 0, 0), at0=0x1E00 + number) for number in range(6)]
 
@@ -21,7 +20,7 @@ class Feeding:
 
     def line(self):
         """The next line that it prints; "" if none comes, in patience."""
-        ready = select.select([self.process.stdout], [], [], 20 * SECOND)[0]
+        ready = select.select([self.process.stdout], [], [], PATIENCE)[0]
         return self.process.stdout.readline().decode() if ready else ""
 
     def end(self):
@@ -45,7 +44,7 @@ def saved_each_time(folder, checks):
             kept.paper.sample(row)
             counts = kept.paper.count(1), kept.paper.count(2)
             group.same(f"row {number} is in the state", True, waits(kept.agrees))
-            seen = kept.run("read", ("operator", "recorder")[number % 2], 3, 1, "--raw", timeout=20 * SECOND)
+            seen = kept.run("read", ("operator", "recorder")[number % 2], 3, 1, "--raw")
             group.same(f"read after row {number}", (0, kept.paper.read(1 + number % 2, 3, 1)[1].decode("latin-1")), seen[:2])
             group.same(f"the 688 bytes after row {number}", True, kept.agrees())
         told = "6 rows taken\n" + "".join(f"{port}: {count} flags let through, interrupt\n"
@@ -60,13 +59,13 @@ def halves(folder, checks):
         feeding.give(CALM + LOSS[:13])
         kept.paper.sample(CALM)
         group.same("the row before it is saved", True, waits(kept.agrees))
-        time.sleep(0.3 * SECOND)
-        group.same("a write", 0, kept.run("write", "recorder", 100, 7, timeout=20 * SECOND)[0])
+        group.same("the half is taken", True, is_taken(feeding.process))
+        group.same("a write", 0, kept.run("write", "recorder", 100, 7, timeout=PATIENCE)[0])
         kept.paper.write(2, 100, b"\x07")
         group.same("the 688 bytes with half a row", True, kept.agrees())
         feeding.give(LOSS[13:30])
-        time.sleep(0.1 * SECOND)
-        group.same("a read", 0, kept.run("read", "operator", 3, 12, timeout=20 * SECOND)[0])
+        group.same("more of it is taken", True, is_taken(feeding.process))
+        group.same("a read", 0, kept.run("read", "operator", 3, 12, timeout=PATIENCE)[0])
         kept.paper.read(1, 3, 12)
         feeding.give(LOSS[30:])
         kept.paper.sample(LOSS)
@@ -79,7 +78,7 @@ def file_first(folder, checks):
         feeding = Feeding(kept, "sample", "calm.rows")
         kept.paper.sample(CALM)
         group.same("the file's rows are in the state", True, waits(kept.agrees))
-        group.same("a read", 0, kept.run("read", "operator", 3, 12, timeout=20 * SECOND)[0])
+        group.same("a read", 0, kept.run("read", "operator", 3, 12, timeout=PATIENCE)[0])
         kept.paper.read(1, 3, 12)
         feeding.give(LOSS)
         kept.paper.sample(LOSS)
@@ -94,7 +93,7 @@ def cut_off(folder, checks):
         kept.paper.sample(CALM)
         group.same("the first", True, waits(kept.agrees))
         feeding.give(LOSS[:30])
-        time.sleep(0.1 * SECOND)
+        group.same("what is cut off is taken", True, is_taken(feeding.process))
         feeding.ends(group, 1, "1 row taken", "zikhrodan: standard input: row 2: refused 8, the sample isn't 31 bytes\n")
 
 

@@ -1,16 +1,17 @@
 """report_whole.py: the page of a log has no parts outside it, is never too large, and has a named module's limits."""
 import re
-import time
 
 from bench import IMAGE
 from browser import asked, read
+from counted import growths, instructions, is_even
 from days import day, kept, row, worst
 from paper import with_codes
 from report import ELEMENTS, HOURS, compare, made
-from station import SECOND, zikhrodan
+from station import EMULATED, zikhrodan
 from told import FACTORY, Told
 
 MOST, MANY = 2 * 1000 * 1000, 100000
+SIZES, EACH = (2400, 3200, 4000), 25000  # samples, more than a page has columns; and the most instructions for each
 OUTSIDE = re.compile(r"https?:|//|url\(|@import|\s(?:src|href|srcset|data|poster|action|on\w+)\s*=|javascript:", re.I)
 POLICY = "default-src 'none'; style-src 'unsafe-inline'; base-uri 'none'; form-action 'none'"
 WORST = {
@@ -49,13 +50,16 @@ def alone(folder, checks):
 
 
 def large(folder, checks):
-    with checks.group(f"a page of {MANY} samples is made in two seconds, and is below {MOST} bytes, whatever they have") as group:
+    with checks.group(f"a page of {MANY} samples is below {MOST} bytes, whatever they have") as group:
         for name, dark in WORST.items():
             path = worst(folder / "worst.log", MANY, dark)
-            started = time.monotonic()
             group.same(name, 0, made(folder, path, "--period", "0.000000001", *HOURS)[0])
-            group.same(f"{name}: in time", True, time.monotonic() - started < 2 * SECOND)
             group.same(f"{name}: its size", True, (folder / "page.html").stat().st_size < MOST)
+    with checks.group(f"a page of more samples takes at most {EACH} instructions for each, and as many of a longer log") as group:
+        for name, dark in list(WORST.items())[:1 if EMULATED else None]:
+            growth = growths(lambda size, dark=dark: instructions(
+                folder, "report", worst(folder / "worst.log", size, dark).name, "-o", "page.html"), SIZES)
+            group.same(f"{name}: {growth}", (True, True), (max(growth) <= EACH, is_even(growth)))
     with checks.group("of more samples there is a page too") as group:
         compare(group, folder, kept(folder / "more.log", [[row()] * 150000 + [row([7])] + [row()] * 150000]))
 

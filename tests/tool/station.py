@@ -1,19 +1,22 @@
 """station.py: the tool as a process, and a state in a file beside the same module on paper; for what a transcript cannot show."""
+import contextlib
+import fcntl
 import os
+import struct
 import subprocess
+import termios
 import time
+from pathlib import Path
 
 from bench import IMAGE
 from feed import sample
 from paper import Paper
-from transcript import ROOT, environment
+from transcript import PATIENCE, ROOT, environment
 
 EMULATED = bool(subprocess.run(["bash", "-c", '. tools/machine.sh; printf %s "$EMULATED"'], cwd=ROOT, capture_output=True,
                                check=True).stdout)
 BY_RUN = ["bash", "-c", 'set -euo pipefail; . "$0"; run "$@"', str(ROOT / "tools" / "machine.sh")]
 PROGRAM = ROOT / "build" / "station"
-PATIENCE = 120
-SECOND = 5 if EMULATED else 1  # how long a second is, for what the tool is given to do in one
 NOBODY = 65534
 
 
@@ -40,10 +43,30 @@ def zikhrodan(folder, *words, program=PROGRAM, timeout=PATIENCE, **how):
 
 def waits(holds):
     """Whether something comes to hold, in patience."""
-    until = time.monotonic() + 20 * SECOND
+    until = time.monotonic() + PATIENCE
     while not holds() and time.monotonic() < until:
-        time.sleep(0.005)
+        time.sleep(0.002)
     return holds()
+
+
+def who_waits():
+    """The sessions whose processes wait for a lock of a file or folder, as the system tells it."""
+    sessions = set()
+    for line in Path("/proc/locks").read_text(encoding="ascii").splitlines():
+        if "->" in line:
+            with contextlib.suppress(ProcessLookupError):
+                sessions.add(os.getsid(int(line.split("->")[1].split()[3])))
+    return sessions
+
+
+def wait_in_turn(*processes):
+    """Whether processes that were started here all come to wait for a lock, in patience."""
+    return waits(lambda: {process.pid for process in processes} <= who_waits())
+
+
+def is_taken(process):
+    """Whether a process comes to have read all that it was given on its standard input, in patience."""
+    return waits(lambda: struct.unpack("i", fcntl.ioctl(process.stdin, termios.FIONREAD, bytes(4)))[0] == 0)
 
 
 LOSS = sample(status=(0x12, 0x34, 0x56), at2=250)  # eleven flags for each port

@@ -10,7 +10,7 @@ import subprocess
 import time
 
 import logs
-from station import CALM, LOSS, PATIENCE, SECOND, Kept, command, settled, start, waits
+from station import CALM, LOSS, PATIENCE, Kept, command, settled, start, wait_in_turn, waits
 from transcript import environment
 
 COLOUR = re.compile("\33\\[[0-9;]*m")
@@ -29,7 +29,7 @@ class Terminal:
         """What comes on the terminal, with its line ends as a program writes them. A process that does not end is killed."""
         text, part = b"", b"-"
         while part:
-            if not select.select([self.master], [], [], 20 * SECOND)[0]:
+            if not select.select([self.master], [], [], PATIENCE)[0]:
                 os.killpg(self.process.pid, signal.SIGKILL)
             try:
                 part = os.read(self.master, 65536)
@@ -76,7 +76,7 @@ def colours(folder, checks):
 
 
 def slowly(kept, terminal, rows):
-    """Gives a row when the one before is in the state, and a while has passed."""
+    """Gives a row when the one before is in the state, and a while has passed: with all of them more than a second."""
     for row in rows:
         file = kept.path.stat().st_ino
         terminal.process.stdin.write(row)
@@ -97,7 +97,7 @@ def on_screen(text):
 
 def progress(folder, checks):
     kept = Kept(folder / "progress")
-    rows = [CALM] * 8  # longer than a second
+    rows = [CALM] * 8
     with checks.group("how far a long input is, on standard error where that is a terminal, and nowhere else") as group:
         terminal = Terminal(kept.folder, "sample", "module.state", "-", on=("stderr",), stdin=subprocess.PIPE, bufsize=0)
         slowly(kept, terminal, rows)
@@ -130,7 +130,7 @@ def waiting(folder, checks):
         fcntl.flock(lock, fcntl.LOCK_EX)
         terminal = Terminal(kept.folder, "write", "module.state", "operator", 100, 1, on=("stderr",))
         other = start(kept.folder, "write", "module.state", "operator", 101, 1)
-        time.sleep(0.5 * SECOND)
+        group.same("they wait", True, wait_in_turn(terminal.process, other))
         os.close(lock)
         group.same("on a terminal", "zikhrodan: module.state: waiting for another command in its folder\n", terminal.end()[1])
         group.same("in a pipe", b"", other.communicate(timeout=PATIENCE)[1])

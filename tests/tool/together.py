@@ -1,12 +1,11 @@
 """together.py: several commands at once on one state: each is done after the other, and no flag or write is lost."""
 import fcntl
 import os
-import time
 from concurrent.futures import ThreadPoolExecutor
 
 from bench import IMAGE
 from feed import sample
-from station import CALM, CHANGES, PATIENCE, SECOND, Kept, start
+from station import CALM, CHANGES, PATIENCE, Kept, start, wait_in_turn
 
 PORTS = ("operator", "recorder")
 WRITES = {87: 30, 88: 30, 98: 30}  # the operator's bytes, and how often each is written
@@ -93,8 +92,8 @@ def in_turn(checks, folder):
         lock = os.open(kept.folder, os.O_RDONLY)
         fcntl.flock(lock, fcntl.LOCK_EX)
         processes = [start(kept.folder, *words) for words in changes]
-        time.sleep(0.5 * SECOND)
-        group.same("they wait", [None] * len(processes), [process.poll() for process in processes])
+        group.same("they wait", True, wait_in_turn(*processes))
+        group.same("none has ended", [None] * len(processes), [process.poll() for process in processes])
         group.same("the 688 bytes", True, kept.agrees())
         os.close(lock)
         for process in processes:

@@ -35,7 +35,7 @@ import stored
 import synced
 import terminals
 import together
-from bench import Checks
+from bench import Checks, settle
 
 PARTS = {part.__name__: part for part in (rules, manual, stored, examples, keys, outputs, disk, synced, kills, together, pauses,
                                            links, terminals, log_kills, log_power, log_together, log_hardships, log_outputs,
@@ -49,6 +49,7 @@ def main(names):
         print(f"tool: there is no part '{unknown[0]}': the parts are {', '.join(PARTS)}", file=sys.stderr)
         return 2
     checks = Checks()
+    settle()
     signal.signal(signal.SIGTERM, lambda *_: sys.exit(2))  # so that the scratch folder goes
     with tempfile.TemporaryDirectory(prefix="tool") as folder:
         Path(folder).chmod(0o755)  # another user's commands are run in it too

@@ -17,6 +17,7 @@ from pathlib import Path
 ROOT = Path(__file__).resolve().parents[2]
 INDENT, COMMAND, INPUT, ANY = "    ", "$ ", "# ", ".."
 SHOWN, WIDE = 16, 130  # lines of a difference; columns of a check's name
+PATIENCE = 900  # seconds, for what has no end otherwise: no check is of how long something takes
 
 
 class Step:
@@ -93,7 +94,7 @@ def seen(step, folder):
     """The lines that a step prints, with its exit status."""
     done = subprocess.run(["bash", "-c", step.command], cwd=folder, env=environment(folder), stdout=subprocess.PIPE,
                           stderr=subprocess.STDOUT, input="".join(f"{line}\n" for line in step.input).encode(),
-                          start_new_session=True, timeout=120, check=False)
+                          start_new_session=True, timeout=PATIENCE, check=False)
     lines = done.stdout.decode("latin-1").split("\n")
     if lines.pop():
         lines = done.stdout.decode("latin-1").split("\n") + ["[the last line has no end]"]
