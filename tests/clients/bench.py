@@ -16,16 +16,17 @@ IMAGE = bytes.fromhex((ROOT / "data" / "factory-image.hex").read_text(encoding="
 DEVICES = {1: "operator", 2: "recorder"}
 WAYS = ("netlink", "ioctl")
 RESET, SAMPLE, READ, WRITE, LOOK, LEND = range(1, 7)  # wire.h
-PATIENCE = struct.pack("@2l", 60, 0)  # a struct timeval
+PATIENCE = 900  # seconds, for what has no end otherwise
 REQUEST, ANSWER = struct.Struct("<4I688s"), struct.Struct("<2I688s")
 
 
 class Module:
     """The module's process, and beside it the same module on paper."""
 
-    def __init__(self, path):
+    def __init__(self, path, **setting):
         self.path, self.paper = str(path), Paper()
-        self.process = subprocess.Popen(START + [self.path], cwd=ROOT, stdin=subprocess.PIPE, stdout=subprocess.PIPE)
+        self.process = subprocess.Popen(START + [self.path], cwd=ROOT, env=dict(os.environ, **setting), stdin=subprocess.PIPE,
+                                        stdout=subprocess.PIPE)
         if self.process.stdout.readline() != b"listening\n":
             self.end()
             print("clients: the module's process does not start", file=sys.stderr)
@@ -35,13 +36,13 @@ class Module:
         """Ends the process by ending its standard input; gives its exit status."""
         self.process.stdin.close()
         self.process.stdout.close()
-        return self.process.wait(timeout=60)
+        return self.process.wait(timeout=PATIENCE)
 
     def ask(self, kind, port=0, address=0, data=b"", count=None):
         """One request: the packed answer and the bytes."""
         with socket.socket(socket.AF_UNIX, socket.SOCK_SEQPACKET) as way:
             for limit in (socket.SO_RCVTIMEO, socket.SO_SNDTIMEO):  # settimeout would refuse to wait where connections queue
-                way.setsockopt(socket.SOL_SOCKET, limit, PATIENCE)
+                way.setsockopt(socket.SOL_SOCKET, limit, struct.pack("@2l", PATIENCE, 0))  # a struct timeval
             way.connect(self.path)
             way.send(REQUEST.pack(kind, port, address, len(data) if count is None else count, data))
             packed, length, run = ANSWER.unpack(way.recv(ANSWER.size + 1))
@@ -70,15 +71,15 @@ class Module:
         """The 688 bytes are those on paper."""
         return self.look() == bytes(self.paper.state)
 
-    def setting(self, way="netlink", path=None, shim=SHIM):
+    def setting(self, way="netlink", path=None, shim=SHIM, **more):
         """The environment of a tool on the module."""
         return dict(os.environ, LD_PRELOAD=str(shim), ZIKHRODAN_MODULE=self.path if path is None else str(path),
-                    ZIKHRODAN_NETLINK="yes" if way == "netlink" else "no")
+                    ZIKHRODAN_NETLINK="yes" if way == "netlink" else "no", **more)
 
     def run(self, *words, user=None, **changes):
         """Runs a tool on the module: its exit status, and what it printed and complained, as text of single bytes."""
         done = subprocess.run([str(word) for word in words], cwd="/", env=dict(self.setting(**changes), LC_ALL="C"),
-                              stdin=subprocess.DEVNULL, capture_output=True, timeout=60, user=user, check=False)
+                              stdin=subprocess.DEVNULL, capture_output=True, timeout=PATIENCE, user=user, check=False)
         return done.returncode, done.stdout.decode("latin-1"), done.stderr.decode("latin-1")
 
 

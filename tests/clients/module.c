@@ -68,10 +68,10 @@ static int serve(int client)
 /* Serves one connection after the other until standard input ends. */
 static int serve_all(int listener)
 {
-    int client = -1;
+    int client = -1, patience = 1000 * wire_patience();
     for (;;) {
         struct pollfd waiting[2] = {{.fd = 0, .events = POLLIN}, {.fd = client >= 0 ? client : listener, .events = POLLIN}};
-        int ready = poll(waiting, 2, client >= 0 ? WIRE_PATIENCE_MS : -1);
+        int ready = poll(waiting, 2, client >= 0 ? patience : -1);
         if (ready < 0 && errno != EINTR)
             return -1;
         if (ready > 0 && waiting[0].revents)

@@ -16,7 +16,7 @@ _Static_assert(WRITE_LIMIT == sizeof ((struct request *)0)->bytes, "the relay's 
 int module_take(void)
 {
     struct sockaddr_un address = {.sun_family = AF_UNIX};
-    struct timeval patience = {.tv_sec = WIRE_PATIENCE_MS / 1000};
+    struct timeval patience = {.tv_sec = wire_patience()};
     const char *path = getenv("ZIKHRODAN_MODULE");
     if (path == NULL || path[0] == '\0' || strlen(path) >= sizeof address.sun_path)
         return -ENXIO;

@@ -7,6 +7,7 @@
 #define WIRE_H
 
 #include <stdint.h>
+#include <stdlib.h>
 #include <zikhrodan.h>
 
 enum {
@@ -18,8 +19,16 @@ enum {
     WIRE_LEND = 6    /* for tests: a state in place of the module's, through no call */
 };
 
-/* How long either side waits for the other. */
-enum { WIRE_PATIENCE_MS = 5000 };
+/* How many seconds either side waits for the other: the environment's ZIKHRODAN_PATIENCE, from 1 to an hour; else this. */
+enum { WIRE_PATIENCE = 60, WIRE_MOST_PATIENCE = 3600 };
+
+static inline int wire_patience(void)
+{
+    const char *told = getenv("ZIKHRODAN_PATIENCE");
+    long seconds = told ? strtol(told, NULL, 10) : WIRE_PATIENCE;
+
+    return seconds >= 1 && seconds <= WIRE_MOST_PATIENCE ? (int)seconds : WIRE_PATIENCE;
+}
 
 struct request {
     uint32_t kind;
