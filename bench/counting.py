@@ -35,8 +35,9 @@ def program(engine, *words):
 
 
 def emulated(words, status=0, **how):
-    """The instructions of a run under the emulator that ends with this status. It says how it translates a stretch of code, with a mark for each
-    instruction, right before the stretch first runs; and it says each time that a stretch runs, by where the translation lies."""
+    """The instructions of a run under the emulator that ends with this status. The emulator says how it translates a stretch of
+    code, with a mark for each instruction, right before the stretch first runs; and it says each time that a stretch runs, by
+    where the translation lies."""
     log = ("-d", "exec,nochain,op", "-D", "/dev/stderr")  # which, named as a file, is not written to line by line
     emulator = subprocess.Popen([EMULATOR, *log, *words], **how | {"stderr": subprocess.PIPE})
     marked, total, lengths = 0, 0, {}

@@ -30,8 +30,8 @@ void try_expecting(struct call call, unsigned refusal);
 _Noreturn void fail(const char *words, ...) __attribute__((format(printf, 1, 2)));
 _Noreturn void mismatch(const char *words, ...) __attribute__((format(printf, 1, 2)));
 
-/* The group's first calls, SUMMED of them, by the seed that nobody chose and for the real image, have this sum: the order in which
- * they are drawn is in no compiler's choice. To be said at the group's end. */
+/* At a group's end: its first calls, SUMMED of them, by the seed that nobody chose and for the real image, have this sum. So the
+ * order in which they are drawn is in no compiler's choice. */
 void drawn_as(uint64_t sum);
 
 /* For a group that makes its calls by itself: how many, and what prints its case. */

@@ -4,8 +4,8 @@
  *   compare again FILE
  *
  * IMAGE is a factory image, 640 two-digit hexadecimal numbers. --calls is for the module's random histories, and those of a log
- * make a part as many; --pairs is for the pairs of runs of demand 3; --first ends at the first group that fails. `again` reads what
- * is printed of a mismatch. */
+ * make a part as many; --pairs is for the pairs of runs of demand 3; --first ends at the first group that fails. `again` reads
+ * what is printed of a mismatch. */
 #include "again.h"
 #include "check.h"
 #include "groups.h"

@@ -1,5 +1,5 @@
-/* random.h: random numbers that are the same on each machine (splitmix64). C leaves open which operand, or which argument of a call,
- * comes first: no expression draws in two of them, unless they may change places. */
+/* random.h: random numbers that are the same on each machine (splitmix64). C leaves open which operand, or which argument of a
+ * call, comes first: no expression draws in two of them, unless they may change places. */
 #ifndef RANDOM_H
 #define RANDOM_H
 

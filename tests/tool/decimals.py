@@ -16,4 +16,5 @@ def run(folder, checks):
                     for words in ((), ("printf",)))
     with checks.group("numbers in decimal, the shortest and with three and four decimals, are printf's") as group:
         group.same("lines", (True, theirs.count(b"\n")), (ours.count(b"\n") > 500000, ours.count(b"\n")))
-        group.same("those that differ", [], [pair for pair in zip(ours.split(b"\n"), theirs.split(b"\n")) if pair[0] != pair[1]][:3])
+        pairs = zip(ours.split(b"\n"), theirs.split(b"\n"))
+        group.same("those that differ", [], [pair for pair in pairs if pair[0] != pair[1]][:3])

@@ -1,6 +1,6 @@
-/* ended.c: linked into the tool in place of the calls that it makes of the system (the linker's --wrap, of the names that ended.py
- * has). Before the call whose number the environment's ENDED_AT has, the first being 1, the tool gets the signal of the number
- * ENDED_BY; a write is half done by then. */
+/* ended.c: linked into the tool in place of the calls that it makes of the system (the linker's --wrap). Before the call whose
+ * number the environment's ENDED_AT has, the first being 1, the tool gets the signal of the number ENDED_BY; a write is half done
+ * by then. */
 #include <poll.h>
 #include <signal.h>
 #include <stdio.h>

@@ -1,5 +1,5 @@
-"""ended.py: the tool linked with ended.c, which ends it before a call that it makes of the system: before the first, the second, and
-so on, until it ends by itself. So no moment between two calls is left out, however fast the machine is."""
+"""ended.py: the tool linked with ended.c, which ends it before a call that it makes of the system: before the first, the second,
+and so on, until it ends by itself. So no moment between two calls is left out, however fast the machine is."""
 import re
 import subprocess
 from itertools import count

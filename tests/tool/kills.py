@@ -90,7 +90,7 @@ def by_the_wrapper(kept, group):
 def run(folder, checks):
     kept, program, chance = Kept(folder / "kills"), ended.build(folder / "tool"), random.Random(688)
     kept.paper.sample(CALM)  # so that each command changes something
-    with checks.group("commands ended by SIGTERM, SIGINT, SIGHUP before each call: the same, and nothing is left beside it") as group:
+    with checks.group("commands ended by SIGTERM, SIGINT, SIGHUP before each call: the same, and nothing is left") as group:
         for how in ASKED:
             commands(kept, program, group, how)
         group.same("other files", [], kept.others())

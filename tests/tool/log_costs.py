@@ -1,5 +1,5 @@
-"""log_costs.py: a log that is twice as long is twice the work, and no more than so many instructions a sample, in each form; and a
-form whose output nobody takes does not go on."""
+"""log_costs.py: a log that is twice as long is twice the work, and no more than so many instructions a sample, in each form; and
+a form whose output nobody takes does not go on."""
 from counted import growths, instructions, is_even
 from days import worst
 from log_kills import rows_from
@@ -29,7 +29,7 @@ def run(folder, checks):
     for size in (*SIZES, *LONG):
         worst(folder / f"{size}.log", size, lambda at: at % 2)
     forms = [(("log", "show"), form, most) for form, most in SHOWN.items()] + [(("died",), *one) for one in DIED.items()]
-    with checks.group(f"{SIZES[-1]} samples in each form, and added: instructions for each, and as many of a longer log") as group:
+    with checks.group("a sample in each form, and added, takes so many instructions, and as many in a longer log") as group:
         for name, form, most in forms:
             growth = growths(lambda size, name=name, form=form: instructions(folder, *name, f"{size}.log", *form), SIZES)
             group.same(f"{name} {form}: {growth}, at most {most}", (True, True), (max(growth) <= most, is_even(growth)))

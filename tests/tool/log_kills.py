@@ -6,9 +6,7 @@ import json
 import random
 import signal
 import subprocess
-from itertools import groupby
 
-import ended
 import logs
 from bench import IMAGE
 from feed import sample
@@ -58,35 +56,9 @@ def shown(folder, path, **how):
     return [bytes.fromhex(row["hex"]) for row in json.loads(text)["samples"]] if status == 0 else complaint
 
 
-def adds(folder, program, group):
-    """Adds of some rows and a power-up, ended before each of their calls; gives how many were killed before their change, and
-    after it."""
-    path, before, changed = new_log(folder), 0, 0
-    old = rows_from(0, 20)
-    for count in (0, 1, 2, 40):
-        new, seen = rows_from(100, count), []
-        (folder / "new.rows").write_bytes(b"".join(new))
-        words = ("log", "add", path.name, "new.rows") if count else ("log", "power-up", path.name)
-        held = (old, 2), (old + new, 2 if 0 < count < 13 else 4 if count else 3)
-        for status, said, call in ended.each_moment(folder, program, signal.SIGKILL, *words, begin=lambda: path.write_bytes(
-                logs.file_of(ROOM, logs.blocks_of(old)))):
-            blocks = logs.read(path.read_bytes())
-            seen.append(([row for _, rows in blocks for row in rows], len(blocks)))
-            group.same(f"{words[1]} of {count}, call {call}: what is said to be done is", True,
-                       not ("taken" in said or "opened" in said) or seen[-1] == held[1])
-        at = seen.index(held[1]) if held[1] in seen else len(seen)
-        group.same(f"{words[1]} of {count}: that of before, and from some call on that of after", True,
-                   seen == [held[0]] * at + [held[1]] * (len(seen) - at))
-        group.same(f"{words[1]} of {count}: some are killed before the change, some after it; at last it ends by itself", (True, 0),
-                   (0 < at < len(seen) - 1, status))
-        group.same(f"{words[1]} of {count}: the tool has the same log", held[1][0], shown(folder, path))
-        before, changed = before + at, changed + len(seen) - 1 - at
-    return before, changed
-
-
 def give(process, rows, acknowledged, looks):
-    """Gives rows, one after the other, up to a number when the one before is in the log, and then the others at once; kills. Gives
-    what the last look has seen, and whether each row came in."""
+    """Gives rows, up to a number each when the one before is in the log, and then the others at once; kills. Gives what the last
+    look has seen, and whether each row came in."""
     most, came = [], True
     for number, row in enumerate(rows[:acknowledged], 1):
         process.stdin.write(row)
@@ -131,7 +103,6 @@ def state_after(states, rows):
 
 def both(folder, chance, group):
     """The module and the log are fed from one pipe."""
-    behind = 0
     for number in range(STREAMS):
         path, states = begun(folder)
         rows = rows_from(0, chance.randrange(1, GIVEN + 1))
@@ -145,26 +116,6 @@ def both(folder, chance, group):
         group.same(f"{number}: the state is that after a row", True, state in states)
         at = states.index(state) if state in states else -1
         group.same(f"{number}: it is not ahead of the log", True, at <= len(seen))
-        behind += at < len(seen)
-    return behind
-
-
-def log_first(folder, program, group):
-    """A command that feeds both, killed before each of its calls: first the log has the rows, and then the state."""
-    path, states = begun(folder)
-    new, seen = rows_from(8, 20), []
-    (folder / "new.rows").write_bytes(b"".join(new))
-    first, last = states[0], state_after(states, new)[-1]
-
-    def begin():
-        path.write_bytes(logs.file_of(ROOM, []))
-        (folder / "module.state").write_bytes(first)
-
-    for _ in ended.each_moment(folder, program, signal.SIGKILL, "sample", "--log", path.name, "module.state", "new.rows",
-                               begin=begin):
-        seen.append((look(path), (folder / "module.state").read_bytes()))
-    expected = [([], first), (new, first), (new, last)]
-    group.same("what is found, one after the other", True, [pair for pair, _ in groupby(seen)] == expected)
 
 
 def each_call(folder, group, program):
@@ -193,17 +144,11 @@ def each_call(folder, group, program):
 
 
 def run(folder, checks):
-    chance, before, changed, behind = random.Random(31), 0, 0, 0
-    program = ended.build(folder / "ended")
-    with checks.group("adds and power-ups killed before each call: the log is that of before, or that of after") as group:
-        before, changed = adds(folder / "adds", program, group)
-    with checks.group("a sample with a log killed before each call: neither has the rows, or the log, or both") as group:
-        log_first(folder / "first", program, group)
+    chance = random.Random(31)
     with checks.group(f"{STREAMS} adds killed while rows come in: what a look has seen is there, and no row is torn") as group:
         pipes(folder / "pipes", chance, group)
     with checks.group(f"{STREAMS} samples with a log killed while rows come in: the log is not behind the state") as group:
-        behind = both(folder / "both", chance, group)
+        both(folder / "both", chance, group)
     with checks.group("killed in the midst of each write and before each sync: the same, and the next add goes on") as group:
         ends = each_call(folder / "each", group, build(folder / "tool"))
         group.same("they are killed at five calls of an add, and at eight of a sample", 13, ends)
-    print(f"-- {before} kills before a change, {changed} after; {behind} of a state that was behind its log")

@@ -1,5 +1,5 @@
-"""log_outputs.py: no standard output for a command on a log: one line, status 2, and what was to be changed is; and long logs. What
-these cost is in log_costs.py."""
+"""log_outputs.py: no standard output for a command on a log: one line, status 2, and what was to be changed is; and long logs,
+whose costs are in log_costs.py."""
 from log_hardships import ADD, NEW, OLD, POWER_UP, SAMPLE, SHOWS, kept
 from log_kills import look, rows_from
 from outputs import WAYS, without_output

@@ -31,7 +31,7 @@ def rows_of(own, at):
 def looker(folder, path, adders):
     """Looks while there is an adder: what it saw each time, or how it failed."""
     seen = []
-    while not all(future.done() for future in adders):
+    while not seen or not all(future.done() for future in adders):
         seen.append(shown(folder, path))
     return seen
 

@@ -64,7 +64,7 @@ def writer(kept, address, times):
 def looker(kept, writers):
     """Looks while there is a writer, without a lock: what went wrong, and how often it looked."""
     wrong, count = [], 0
-    while not all(future.done() for future in writers):
+    while count == 0 or not all(future.done() for future in writers):
         status, said, complaint = kept.run("show", "--raised")
         wrong += [complaint] if status or "11 flags let through" not in said else []
         count += 1

@@ -19,6 +19,7 @@ import links
 import log_costs
 import log_hardships
 import log_kills
+import log_moments
 import log_outputs
 import log_power
 import log_together
@@ -38,8 +39,8 @@ import together
 from bench import Checks, settle
 
 PARTS = {part.__name__: part for part in (rules, manual, stored, examples, keys, outputs, disk, synced, kills, together, pauses,
-                                           links, terminals, log_kills, log_power, log_together, log_hardships, log_outputs,
-                                           log_costs, decimals, died, died_hours, report, report_whole, report_drawn,
+                                           links, terminals, log_kills, log_moments, log_power, log_together, log_hardships,
+                                           log_outputs, log_costs, decimals, died, died_hours, report, report_whole, report_drawn,
                                            report_looks, report_hardships)}
 
 
