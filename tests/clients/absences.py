@@ -113,7 +113,8 @@ def other_user(module, checks, folder):
     """As nobody (65534) where this is root, else as whoever this is."""
     with checks.group("a user who is not root can use the tools") as group:
         shim, user = folder / SHIM.name, 65534 if os.geteuid() == 0 else None
-        shutil.copy(SHIM, shim)
+        shutil.copyfile(SHIM, shim)
+        os.chmod(shim, 0o755)  # whatever the umask was when it was built
         os.chmod(folder, 0o755)
         os.chmod(module.path, 0o666)
         for way in ("netlink", "ioctl"):

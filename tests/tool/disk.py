@@ -52,10 +52,17 @@ def full_for_demo(folder, checks):
         group.same("55296 bytes", (0, ""), zikhrodan(folder, "demo", "--keep", "enough", **limited(55296))[::2])
 
 
+def copied(folder):
+    """The tool where another user can run it, whatever the umask was when it was built."""
+    program = folder / "tool"
+    shutil.copyfile(PROGRAM, program)
+    program.chmod(0o755)
+    return program
+
+
 def another(folder):
     """As nobody where this is root, else as whoever this is; the tool from where that user can read it."""
-    program = folder / "tool"
-    shutil.copy(PROGRAM, program)
+    program = copied(folder)
     return {"program": program, **({"user": NOBODY, "group": NOBODY, "extra_groups": []} if os.geteuid() == 0 else {})}
 
 

@@ -1,11 +1,11 @@
 """links.py: a state that is a link stays one; a state keeps its rights and its owner; a new one has what the umask leaves."""
 import os
-import shutil
 import stat
 
 from bench import IMAGE
+from disk import copied
 from paper import Paper
-from station import CHANGES, NOBODY, PROGRAM, Kept, zikhrodan
+from station import CHANGES, NOBODY, Kept, zikhrodan
 
 
 def rights_of(path):
@@ -53,8 +53,7 @@ def shared(folder, checks):
     if os.geteuid() != 0:
         return
     with checks.group("a state that a group shares stays the group's, whoever of them changes it") as group:
-        program, kept = folder / "tool", Kept(folder / "shared")
-        shutil.copy(PROGRAM, program)
+        program, kept = copied(folder), Kept(folder / "shared")
         os.chown(kept.folder, NOBODY, NOBODY)
         kept.folder.chmod(0o775)
         for words in CHANGES:

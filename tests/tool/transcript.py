@@ -86,7 +86,9 @@ def scratch(folder):
 
 
 def environment(folder):
-    kept = {name: value for name, value in os.environ.items() if name not in ("NO_COLOR", "PYTHONPATH")}
+    """This one without what changes what a shell or a command does, and with what they are to have."""
+    kept = {name: value for name, value in os.environ.items()
+            if name not in ("NO_COLOR", "PYTHONPATH", "BASH_ENV", "CDPATH", "POSIXLY_CORRECT")}
     return dict(kept, LC_ALL="C", TZ="UTC", HOME=str(folder), PATH=f"{ROOT}:{kept['PATH']}")
 
 
