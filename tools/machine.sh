@@ -4,6 +4,8 @@
 #                             on a system with apt-get
 #   compile WORDS ..          the C compiler for x86-64, which is what the library is compiled for
 #   compile_cpp WORDS ..      the C++ compiler for x86-64
+#   objects FOLDER SOURCE ..  compiles each C source, without a warning, into an object in FOLDER, and prints nothing; an object that
+#                             is newer than its source and every header beside a source or in build/ stays
 #   copy_object WORDS ..      objcopy for x86-64
 #   run PROGRAM WORDS ..      runs an x86-64 program: as it is, or on Arm under the toolchain's emulator
 #   emulator                  prints the path of that emulator; where `run` does not emulate, nothing
@@ -67,3 +69,21 @@ aarch64)
     stop "the library is for x86-64; on this machine, $(uname -m), it is neither native nor emulated"
     ;;
 esac
+
+objects() {
+    local folder=$1 source object header
+    shift
+    mkdir -p -- "$folder"
+    for object in "$folder"/*.o; do
+        source=${object##*/}
+        [[ " ${*##*/} " == *" ${source%.o}.c "* ]] || rm -f -- "$object" # of a source that is gone
+    done
+    header=$(find "${@%/*}" build -maxdepth 1 -name '*.h' -printf '%T@ %p\n' | sort -n | tail -n 1 | cut -d ' ' -f 2-)
+    for source; do
+        object=${source##*/}
+        object=$folder/${object%.c}.o
+        [ "$object" -nt "$source" ] && [ "$object" -nt "$header" ] && continue
+        compile -std=gnu11 -O2 -Wall -Wextra -Werror -Ibuild -c -o "$object.new" "$source"
+        mv -- "$object.new" "$object"
+    done
+}

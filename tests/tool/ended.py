@@ -1,21 +1,18 @@
 """ended.py: the tool linked with ended.c, which ends it before a call that it makes of the system: before the first, the second,
 and so on, until it ends by itself. So no moment between two calls is left out, however fast the machine is."""
 import re
-import subprocess
 from itertools import count
 
+from linked import link
 from station import zikhrodan
 from transcript import ROOT, environment
 
-SOURCE = ROOT / "tests" / "tool" / "ended.c"
-COMPILE = """set -euo pipefail; . tools/machine.sh; program=$1; shift
-compile -std=gnu11 -O2 -Wall -Wextra -Werror -Ibuild station/*.c tests/tool/ended.c build/libzikhrodan.a "$@" -o "$program" """
+SOURCE = "ended.c"
 
 
 def build(program):
-    names = ["pwrite", *re.findall(r"^BEFORE\([\w *]+, (\w+),", SOURCE.read_text(encoding="ascii"), re.M)]
-    subprocess.run(["bash", "-c", COMPILE, "compile", program, *(f"-Wl,--wrap={name}" for name in names)], cwd=ROOT, check=True)
-    return program
+    text = (ROOT / "tests" / "tool" / SOURCE).read_text(encoding="ascii")
+    return link(program, SOURCE, ["pwrite", *re.findall(r"^BEFORE\([\w *]+, (\w+),", text, re.M)])
 
 
 def each_moment(folder, program, how, *words, begin):

@@ -1,29 +1,26 @@
 """recorded.py: the tool linked with recorded.c, which records what it writes and syncs, and ends it or fails at a call; and
 versions of it that are broken."""
 import struct
-import subprocess
 
+from linked import link
 from station import zikhrodan
 from transcript import ROOT, environment
 
-COMPILE = """set -euo pipefail; . tools/machine.sh
-compile -std=gnu11 -O2 -Wall -Wextra -Werror -Ibuild "$1"/*.c tests/tool/recorded.c build/libzikhrodan.a \
-    -Wl,--wrap=pwrite -Wl,--wrap=fdatasync -Wl,--wrap=fsync -o "$2" """
+CALLS = ("pwrite", "fdatasync", "fsync")
 
 
 def build(program, edits=()):
-    """Compiles the tool, with edits of its logfile.c: each text is there once, and another comes in its place."""
+    """The tool, with edits of its logfile.c: each text is there once, and another comes in its place."""
+    text = (ROOT / "station" / "logfile.c").read_text(encoding="utf-8")
+    for old, new in edits:
+        if text.count(old) != 1:
+            raise RuntimeError(f"station/logfile.c has not once: {old}")
+        text = text.replace(old, new)
     sources = program.with_suffix(".sources")
     sources.mkdir()
-    for path in (ROOT / "station").glob("*.[ch]"):
-        text = path.read_text(encoding="utf-8")
-        for old, new in edits if path.name == "logfile.c" else ():
-            if text.count(old) != 1:
-                raise RuntimeError(f"station/logfile.c has not once: {old}")
-            text = text.replace(old, new)
-        (sources / path.name).write_text(text, encoding="utf-8")
-    subprocess.run(["bash", "-c", COMPILE, "compile", sources, program], cwd=ROOT, check=True)
-    return program
+    edited = sources / "logfile.c"
+    edited.write_text(text, encoding="utf-8")
+    return link(program, "recorded.c", CALLS, edited)
 
 
 def recorded(folder, program, *words, **setting):

@@ -1,7 +1,6 @@
 """report_hardships.py: what befalls the page of a log: damage, a full disk, a place that is none, a library that gives another
 answer than the samples: one line, and a page that was there is as it was."""
 import os
-import subprocess
 from itertools import product
 
 import logs
@@ -9,16 +8,11 @@ from bench import IMAGE
 from browser import read
 from days import day, kept, row
 from disk import another, limited
+from linked import link
 from outputs import WAYS, without_output
 from station import environment, zikhrodan
-from transcript import ROOT
 
 UNSOUND = "refused 15, the log isn't whole blocks, has fewer than are used, or is unsound"
-COMPILE = """set -euo pipefail; . tools/machine.sh
-compile -std=gnu11 -O2 -Wall -Wextra -Werror -Ibuild station/*.c tests/tool/lying.c build/libzikhrodan.a \
-    -Wl,--wrap=zikhrodan_log_first -o "$1" """
-
-
 OLD = b"<!DOCTYPE html>old"
 OWN, NONE = " is what the page is made of, and is not replaced by it", ": No such file or directory"
 THERE = " is there already, is no page, and is not replaced"
@@ -148,8 +142,7 @@ def modules(folder, checks):
 
 def lies(folder, checks):
     with checks.group("where the library's answer is not what the samples have, that is said, and there is no page") as group:
-        files, program = begun(folder), folder.parent / "lying"
-        subprocess.run(["bash", "-c", COMPILE, "compile", program], cwd=ROOT, check=True)
+        files, program = begun(folder), link(folder.parent / "lying", "lying.c", ["zikhrodan_log_first"])
         for bit, name, told, has in ((2, "Rx3 loss of signal", 828 ^ 1, 828), (0, "Rx1 loss of signal", 1, 0),
                                      (23, "Tx4 loss of lock", 1, 0)):
             line = (f"zikhrodan: day.log: the library's answer for {name} is {told}, but reading every sample gives {has} "

@@ -1,0 +1,16 @@
+"""linked.py: the tool linked, of the objects that station/build leaves, with a source of these tests that stands between it and some
+of its calls (the linker's --wrap)."""
+import subprocess
+
+from transcript import ROOT
+
+LINK = """set -euo pipefail; . tools/machine.sh; program=$1; shift
+compile -std=gnu11 -O2 -Wall -Wextra -Werror -Ibuild -Istation "$@" build/libzikhrodan.a -o "$program" """
+
+
+def link(program, source, calls, edited=None):
+    """With the source, to which the calls lead; and with an edited source of the tool in place of its own."""
+    objects = [path for path in sorted((ROOT / "build" / "station.d").glob("*.o")) if edited is None or path.stem != edited.stem]
+    words = [ROOT / "tests" / "tool" / source, *([edited] if edited else []), *objects, *(f"-Wl,--wrap={call}" for call in calls)]
+    subprocess.run(["bash", "-c", LINK, "link", program, *words], cwd=ROOT, check=True)
+    return program
