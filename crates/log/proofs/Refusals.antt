@@ -4,11 +4,11 @@
 use mathlib.Core.Path.{_≡_, refl, _∙_}
 use mathlib.Core.Logic.{_↔_}
 use mathlib.Core.Bool.{true, false, _&&_, _||_}
-use mathlib.Core.List.{List, [], _∷_}
+use mathlib.Core.List.{List, [], _∷_, _++_}
 use Prim.Native.Nat.{ℕ, suc, _*_, _≤_, _<_}
 use native.Mathlib.Omega.{arith}
 use lib.Dec.{leb, eqb}
-use lib.ListN.{length}
+use lib.ListN.{length, replicate}
 use borrow.Author.Tests.{lt-leb, ne-eqb}
 use Rattle.laws.specs.Tests.{if_then_else_, Row, noneOf}
 use Rattle.laws.specs.Lists.{at, table, sum}
@@ -108,6 +108,6 @@ pub first-opened : (log : List ℕ) → blockSize ≤ length log → block (afte
 first-opened log h = put-here log 0 (fresh 1) (fresh-length 1) (omega arith) ∙ first-block
 
 -- the one that Ask 1 had, without a summary, remains sound
-pub old-block : soundBlock (table blockSize (λ i. if eqb i 3 || eqb i 511 then 1 else 0)) ≡ true
+pub old-block : soundBlock (0 ∷ 0 ∷ 0 ∷ 1 ∷ (replicate 507 0 ++ (1 ∷ []))) ≡ true
 unfolding soundBlock holds checkOf summary anyTo sum table
 old-block = refl
