@@ -52,9 +52,9 @@ marked2 = blockOf 5 (status 1 0 1 ∷ []) (0 ∷ 0 ∷ 0 ∷ 2 ∷ []) blank (0 
 
 -- ---- which are sound
 
-pub written-sound : soundBlock summarised ≡ true
+pub written-sound : (soundBlock summarised ≡ true) × (soundBlock old ≡ true)
 unfolding soundBlock holds checkOf summary anyTo sum table
-written-sound = refl
+written-sound = (refl, refl)
 
 -- "bytes 501 to 503 are the OR of the three status bytes over their samples and byte 504 is 1": of all samples, and of all three bytes
 pub summary-taken : (summed summarised ≡ true) × (summed empty ≡ true)
