@@ -17,8 +17,8 @@ use Rattle.laws.proofs.Tests.{case, and-both, covers-in, covers-below}
 use Rattle.laws.proofs.Lists.{is-table, patch-length, patch-at, patch-in, patch-else, is-patch, patch-same, at-set}
 use Rattle.laws.proofs.Parts.{table-same, table-front}
 use Rattle.laws.proofs.Zeros.{sum-table}
-use Rattle.log.specs.Block.{blockSize, count, slot, roomEnd, anyTo, summary, checkAt, first510, checkOf, sealed, holds, hasSummary, summed, checked}
-use Rattle.log.proofs.Sealed.{holds-at}
+use Rattle.block.specs.Block.{blockSize, count, slot, roomEnd, anyTo, summary, checkAt, first510, checkOf, sealed, holds, hasSummary, summed, checked}
+use Rattle.block.proofs.Sealed.{holds-at}
 
 -- ---- the end of a block
 

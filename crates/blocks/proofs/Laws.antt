@@ -14,9 +14,9 @@ use Rattle.laws.proofs.Tests.{case, covers-in, covers-above}
 use Rattle.laws.proofs.Lists.{patch-length, patch-at, at-set}
 use Rattle.laws.proofs.Fronts.{front-in, is-front}
 use Rattle.laws.proofs.Parts.{table-same}
-use Rattle.log.specs.Block.{blockSize, sampleSize, count, mostSamples, slot, numberBytes, countAt, roomEnd, sealed, holds, summed, checked, soundBlock, fresh, grown}
-use Rattle.log.proofs.Sealed.{sealed-same}
-use Rattle.log.proofs.Blocks.{number-past}
+use Rattle.block.specs.Block.{blockSize, sampleSize, count, mostSamples, slot, numberBytes, countAt, roomEnd, sealed, holds, summed, checked, soundBlock, fresh, grown}
+use Rattle.block.proofs.Sealed.{sealed-same}
+use Rattle.block.proofs.Blocks.{number-past}
 
 -- ---- blocks that are written
 

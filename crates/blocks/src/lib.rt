@@ -4,7 +4,7 @@ ghost use mathlib.Core.Path.{_≡_};
 ghost use Prim.Native.Nat.{_+_, _*_, _%_, _≤_, _<_};
 ghost use lib.ListN.{length};
 ghost use Rattle.laws.specs.Lists.{at, part, table, patch, sum};
-ghost use Rattle.log.specs.Block.{blockSize, sampleSize, number, numberBytes, countAt, count, mostSamples, roomEnd, anyTo, summary, sealed, holds, hasSummary, summed, checked, soundBlock, fresh, grown};
+ghost use Rattle.block.specs.Block.{blockSize, sampleSize, number, numberBytes, countAt, count, mostSamples, roomEnd, anyTo, summary, sealed, holds, hasSummary, summed, checked, soundBlock, fresh, grown};
 
 pub const BLOCK_LEN: usize = 512;
 

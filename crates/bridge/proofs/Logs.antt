@@ -10,8 +10,8 @@ use lib.Dec.{eqb}
 use lib.ListN.{length}
 use Rattle.laws.proofs.Tests.{case}
 use Rattle.log.specs.Contracts.{addRefusal, powerUpRefusal, sampleRefusal}
-use Rattle.log.specs.Search.{Answer, refused, given, firstRefusal, firstTold}
-use Rattle.log.proofs.Told.{first-short, first-refused-by}
+use Rattle.question.specs.Search.{Answer, refused, given, firstRefusal, firstTold}
+use Rattle.question.proofs.Told.{first-short, first-refused-by}
 use Rattle.log.proofs.Contracts.{added-unique, opened-unique, placed-unique, add-refused, power-up-refused, sample-refused}
 use Rattle.packing.specs.Packing.{bits0}
 use Rattle.bridge.specs.Face.{value, AddPacked, OpenPacked, SamplePacked, FirstPacked, refusalOfFirst, valueOfFirst}

@@ -4,7 +4,7 @@ use Rattle.laws.specs.Words.{ℕ, suc, _/_, _%_, _≡_, List, none, some}
 use Rattle.model.specs.Ports.{Call}
 use Rattle.model.specs.Contracts.{Reported, ReadDone, WriteDone, Located, monitorTold}
 use Rattle.log.specs.Contracts.{Added, Opened, Placed}
-use Rattle.log.specs.Search.{Answer, refused, given, firstTold}
+use Rattle.question.specs.Search.{Answer, refused, given, firstTold}
 use Rattle.packing.specs.Packing.{bits0, bits8, bits16, bits24, refusalIn, kindIn}
 
 -- ---- the calls that are lent the state to change it

@@ -15,7 +15,7 @@ use Rattle.laws.specs.Tests.{if_then_else_, firstOf}
 use Rattle.laws.specs.Lists.{part}
 use Rattle.laws.proofs.Tests.{case, and-left, and-right}
 use Rattle.laws.proofs.Rows.{first-none}
-use Rattle.log.specs.Block.{blockSize, sampleSize, count, slot}
+use Rattle.block.specs.Block.{blockSize, sampleSize, count, slot}
 use Rattle.log.specs.Log.{block, samples, total, placeOf, unsound, sampleRows}
 use Rattle.log.specs.Contracts.{sampleRefusal, Placed, Shown}
 use Rattle.log.proofs.Logs.{total-more}

@@ -7,7 +7,7 @@ ghost use Prim.Native.Nat.{_*_, _≤_, _<_};
 ghost use lib.Dec.{leb};
 ghost use lib.ListN.{length};
 ghost use Rattle.laws.specs.Tests.{if_then_else_};
-ghost use Rattle.log.specs.Block.{blockSize};
+ghost use Rattle.block.specs.Block.{blockSize};
 ghost use Rattle.log.specs.Log.{sound, total, placeOf};
 ghost use Rattle.log.specs.Contracts.{Placed, Shown};
 use blocks::BLOCK_LEN;

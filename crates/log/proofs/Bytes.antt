@@ -3,64 +3,24 @@
 use mathlib.Core.Path.{_≡_}
 use mathlib.Core.Bool.{false, _&&_}
 use mathlib.Core.List.{List}
-use Prim.Native.Nat.{ℕ, zero, suc, _+_, _-_, _*_, _<_}
+use Prim.Native.Nat.{ℕ, suc, _-_, _*_, _<_}
 use native.Mathlib.Omega.{arith}
-use lib.Bits.{or-lt}
-use lib.Dec.{ltb, eqb}
 use lib.ListN.{length}
-use borrow.Author.Tests.{ltb-true, ltb-false}
 use Rattle.laws.specs.Tests.{if_then_else_, covers}
-use Rattle.laws.specs.Lists.{at, table, patch}
-use Rattle.laws.proofs.Tests.{case, if-elim}
-use Rattle.laws.proofs.Lists.{table-length, table-at}
-use Rattle.log.specs.Block.{blockSize, sampleSize, countAt, count, mostSamples, slot, roomEnd, anyTo, summary, checkAt, checkOf, sealed, numberBytes, fresh, grown}
+use Rattle.laws.specs.Lists.{at, patch}
+use Rattle.laws.proofs.Tests.{if-elim}
+use Rattle.block.specs.Block.{blockSize, grown, Bytes}
 use Rattle.log.specs.Log.{block, needsNew, noneLeft, put, newBlock, afterPowerUp, afterAdd, lastNumber}
-use Rattle.log.specs.Contracts.{Bytes}
-use Rattle.log.proofs.Blocks.{fresh-count}
+use Rattle.block.proofs.Blocks.{fresh-count}
+use Rattle.block.proofs.Bytes.{bytes-table, bytes-fresh, bytes-grown}
 use Rattle.log.proofs.Fits.{Fit}
-use Rattle.log.proofs.Logs.{past-end, bytes-block}
+use Rattle.log.proofs.Logs.{bytes-block}
 use Rattle.log.proofs.Calls.{add-elim}
-
-pub bytes-table : (n : ℕ) (f : ℕ → ℕ) → ((i : ℕ) → i < n → f i < 256) → Bytes (table n f)
-bytes-table n f small i = case (ltb i n)
-    (λ t. let h = ltb-true i n t in rw (table-at n f i h) (small i h))
-    (λ t. let h = ltb-false i n t in rw (past-end (table n f) i (rw (table-length n f) h)) (omega arith))
 
 pub bytes-put : (log : List ℕ) (i : ℕ) (b : List ℕ) → Bytes log → Bytes b → Bytes (put log i b)
 unfolding put patch
 bytes-put log i b l s = bytes-table (length log) (λ j. if covers (blockSize * i) blockSize j then at b (j - blockSize * i) else at log j)
     (λ j h. if-elim (λ n. n < 256) (covers (blockSize * i) blockSize j) (λ t. s (j - blockSize * i)) (λ t. l j))
-
-pub bytes-sealed : (f : ℕ → ℕ) → ((i : ℕ) → f i < 256) → Bytes (table blockSize (sealed f))
-unfolding sealed checkOf summary anyTo
-bytes-sealed f small = bytes-table blockSize (sealed f)
-    (λ i h. if-elim (λ n. n < 256) (ltb i checkAt)
-    (λ t. if-elim (λ n. n < 256) (ltb i roomEnd) (λ u. small i)
-    (λ u. if-elim (λ n. n < 256) (ltb (i - roomEnd) 3) (λ v. any (i - roomEnd) (f countAt))
-    (λ v. if-elim (λ n. n < 256) (eqb (i - roomEnd) 3) (λ w. omega arith) (λ w. omega arith))))
-    (λ t. if-elim (λ n. n < 256) (eqb i checkAt) (λ u. omega arith) (λ u. omega arith)))
-  where
-    any : (j n : ℕ) → anyTo f j n < 256
-    any j zero = omega arith
-    any j (suc n) = or-lt 8 (anyTo f j n) (f (slot n + j)) (any j n) (small (slot n + j))
-
-pub bytes-fresh : (n : ℕ) → Bytes (fresh n)
-unfolding fresh
-bytes-fresh n = bytes-sealed (at (numberBytes n)) (by n)
-  where
-    by : (n i : ℕ) → at (numberBytes n) i < 256
-    by n zero = omega arith
-    by n (suc zero) = omega arith
-    by n (suc (suc zero)) = omega arith
-    by n (suc (suc (suc zero))) = omega arith
-    by n (suc (suc (suc (suc i)))) = omega arith
-
-pub bytes-grown : (b x : List ℕ) → Bytes b → Bytes x → count b < mostSamples → Bytes (grown b x)
-unfolding grown
-bytes-grown b x l s h =
-    bytes-sealed (λ i. if eqb i countAt then suc (count b) else (if covers (slot (count b)) sampleSize i then at x (i - slot (count b)) else at b i))
-    (λ i. if-elim (λ n. n < 256) (eqb i countAt) (λ t. omega arith)
-    (λ t. if-elim (λ n. n < 256) (covers (slot (count b)) sampleSize i) (λ u. s (i - slot (count b))) (λ u. l i)))
 
 -- after a power-up, and after an add that is not refused
 pub power-up-bytes : (log : List ℕ) (used : ℕ) → Bytes log → Bytes (afterPowerUp log used)

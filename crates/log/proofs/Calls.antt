@@ -15,10 +15,10 @@ use Rattle.laws.specs.Lists.{at}
 use Rattle.laws.proofs.Tests.{case, and-left, and-right, or-left, or-right}
 use Rattle.laws.proofs.Lists.{part-length}
 use Rattle.laws.proofs.Rows.{first-none}
-use Rattle.log.specs.Block.{blockSize, sampleSize, number, count, mostSamples, samplesIn, soundBlock, grown}
+use Rattle.block.specs.Block.{blockSize, sampleSize, number, count, mostSamples, samplesIn, soundBlock, grown, Bytes}
 use Rattle.log.specs.Log.{blocks, block, samples, lastNumber, needsNew, put, newBlock, afterPowerUp, afterAdd, usedAfter, wrongSample, unsound, noneLeft, addRows, powerUpRows}
-use Rattle.log.specs.Contracts.{addRefusal, powerUpRefusal, Bytes}
-use Rattle.log.proofs.Blocks.{fresh-length, fresh-count, fresh-samples, fresh-sound, fresh-number, grown-length, grown-number, grown-samples, grown-sound}
+use Rattle.log.specs.Contracts.{addRefusal, powerUpRefusal}
+use Rattle.block.proofs.Blocks.{fresh-length, fresh-count, fresh-samples, fresh-sound, fresh-number, grown-length, grown-number, grown-samples, grown-sound}
 use Rattle.log.proofs.Logs.{sound-less, sound-block, sound-follows, put-length, put-else, put-here, bytes-block}
 use Rattle.log.proofs.Fits.{Fit, fit, Next, next-of, next-new, put-fit, put-samples}
 

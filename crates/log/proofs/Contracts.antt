@@ -13,7 +13,7 @@ use lib.ListN.{length}
 use denote.Ref.{RefT, ptr, now}
 use borrow.Author.Tests.{ne-eqb, eq-eqb, eqb-true}
 use Rattle.laws.proofs.Tests.{case}
-use Rattle.log.specs.Block.{blockSize, grown}
+use Rattle.block.specs.Block.{blockSize, grown}
 use Rattle.log.specs.Log.{block, needsNew, put, newBlock, afterPowerUp, usedAfter}
 use Rattle.log.specs.Contracts.{addRefusal, powerUpRefusal, sampleRefusal, Added, Opened, Placed, Shown}
 use Rattle.log.proofs.Calls.{add-taken, add-room, power-up-room}

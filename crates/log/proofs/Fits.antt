@@ -9,7 +9,7 @@ use lib.Dec.{ltb, eqb}
 use lib.ListN.{length}
 use borrow.Author.Tests.{eqb-true, ltb-false, le-ltb, eq-eqb, not-false}
 use Rattle.laws.proofs.Tests.{and-both, or-left, or-right}
-use Rattle.log.specs.Block.{blockSize, number, samplesIn, soundBlock}
+use Rattle.block.specs.Block.{blockSize, number, samplesIn, soundBlock}
 use Rattle.log.specs.Log.{blocks, block, follows, sound, samples, lastNumber, put, misfit, unsound}
 use Rattle.log.proofs.Logs.{sound-same, samples-same, put-length, put-here, put-other}
 

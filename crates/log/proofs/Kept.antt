@@ -11,9 +11,9 @@ use borrow.Author.Tests.{eqb-true}
 use Rattle.laws.specs.Tests.{if_then_else_, firstOf}
 use Rattle.laws.specs.Lists.{part}
 use Rattle.laws.proofs.Tests.{case}
-use Rattle.log.specs.Block.{blockSize, sampleSize}
+use Rattle.block.specs.Block.{blockSize, sampleSize, Bytes}
 use Rattle.log.specs.Log.{samples, lastNumber, needsNew, afterPowerUp, afterAdd, usedAfter, total}
-use Rattle.log.specs.Contracts.{addRefusal, powerUpRefusal, sampleRefusal, Added, Opened, Shown, Bytes, Served, begun, adding, opening, Placed}
+use Rattle.log.specs.Contracts.{addRefusal, powerUpRefusal, sampleRefusal, Added, Opened, Shown, Served, begun, adding, opening, Placed}
 use Rattle.log.proofs.Fits.{Fit, fit-sound, unused-fit}
 use Rattle.log.proofs.Calls.{add-taken, add-sound, add-samples, add-number, power-up-taken, power-up-sound, power-up-samples, power-up-number}
 use Rattle.log.proofs.Positions.{sample-placed}

@@ -1,5 +1,3 @@
-pub mod Sealed
-pub mod Blocks
 pub mod Logs
 pub mod Fits
 pub mod Calls
@@ -11,8 +9,3 @@ pub mod Damage
 pub mod Kept
 pub mod Refusals
 pub mod Summaries
-pub mod Search
-pub mod Least
-pub mod Told
-pub mod Answers
-pub mod Searched

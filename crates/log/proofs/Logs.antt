@@ -3,19 +3,18 @@
 use mathlib.Core.Path.{_≡_, refl, sym, ap, _∙_}
 use mathlib.Core.Logic.{_≢_}
 use mathlib.Core.Bool.{true, _&&_}
-use mathlib.Core.List.{List, [], _∷_, _++_, append-assoc, append-nil}
+use mathlib.Core.List.{List, _++_, append-assoc, append-nil}
 use Prim.Native.Nat.{ℕ, zero, suc, _+_, _*_, _≤_, _<_}
 use native.Mathlib.Omega.{arith}
 use lib.Dec.{ltb, eqb}
-use lib.ListN.{length, drop, length-append, getD, List·getD-append}
-use lib.Seq.{getD-append-seam}
+use lib.ListN.{List·getD-eq-default, length, drop, length-append}
 use borrow.Author.Tests.{eqb-true, eqb-false, ltb-true, ltb-false}
 use Rattle.laws.specs.Lists.{at, part, patch}
 use Rattle.laws.proofs.Tests.{case, and-left, and-right, and-both}
 use Rattle.laws.proofs.Lists.{patch-length, patch-in, patch-else, is-patch, part-length, part-at}
 use Rattle.laws.proofs.Parts.{is-part, part-same, part-tail}
-use Rattle.log.specs.Contracts.{Bytes}
-use Rattle.log.specs.Block.{blockSize, sampleSize, count, slot, samplesTo, samplesIn, soundBlock}
+use Rattle.block.specs.Block.{Bytes, blockSize, count, samplesIn, soundBlock}
+use Rattle.block.proofs.Blocks.{samples-length}
 use Rattle.log.specs.Log.{block, follows, sound, samples, total, put}
 
 -- ---- a sound log, block by block
@@ -86,21 +85,6 @@ module _ (log : List ℕ) (i : ℕ) (b : List ℕ) where
 
 -- ---- how many samples
 
-pub samples-length : (b : List ℕ) (k : ℕ) → length (samplesTo b k) ≡ k
-unfolding samplesTo
-samples-length b zero = refl
-samples-length b (suc k) = length-append (samplesTo b k) (part (slot k) sampleSize b ∷ []) ∙ rw (samples-length b k) (omega arith)
-
-pub samples-at : (b : List ℕ) (n k : ℕ) → k < n → getD (samplesTo b n) k [] ≡ part (slot k) sampleSize b
-unfolding samplesTo
-samples-at b zero k h = absurd (omega arith)
-samples-at b (suc n) k h =
-    let l = samples-length b n in
-    case (ltb k n)
-    (λ t. let m = ltb-true k n t in List·getD-append (samplesTo b n) (part (slot n) sampleSize b ∷ []) [] k (omega arith) ∙ samples-at b n k m)
-    (λ t. let m = ltb-false k n t in let z : k ≡ n = omega arith in
-    rw z (rw l at (getD-append-seam (samplesTo b n) (part (slot n) sampleSize b) [] [])))
-
 pub total-more : (log : List ℕ) (n : ℕ) → total log (suc n) ≡ total log n + count (block log n)
 unfolding samples
 total-more log n = length-append (samples log n) (samplesIn (block log n)) ∙ rw (samples-length (block log n) (count (block log n)))
@@ -147,13 +131,7 @@ put-put log i a b h =
 
 -- ---- a block of memory of bytes
 
--- past the end there is 0
-pub past-end : (s : List ℕ) (i : ℕ) → length s ≤ i → at s i ≡ 0
-past-end [] i h = refl
-past-end (x ∷ xs) zero h = absurd (omega arith)
-past-end (x ∷ xs) (suc i) h = past-end xs i (omega arith)
-
 pub bytes-block : (log : List ℕ) (n : ℕ) → Bytes log → blockSize * n + blockSize ≤ length log → Bytes (block log n)
 bytes-block log n l h i = case (ltb i blockSize)
     (λ t. rw (part-at (blockSize * n) blockSize log h i (ltb-true i blockSize t)) (l (blockSize * n + i)))
-    (λ t. let k = ltb-false i blockSize t in rw (past-end (block log n) i (rw (part-length (blockSize * n) blockSize log h) k)) (omega arith))
+    (λ t. let k = ltb-false i blockSize t in rw (List·getD-eq-default (block log n) 0 {n = i} (rw (part-length (blockSize * n) blockSize log h) k)) (omega arith))

@@ -14,11 +14,11 @@ use Rattle.laws.specs.Tests.{firstOf}
 use Rattle.laws.specs.Lists.{part}
 use Rattle.laws.proofs.Tests.{case}
 use Rattle.laws.proofs.Parts.{part-part}
-use Rattle.log.specs.Block.{blockSize, sampleSize, count, slot, samplesIn}
+use Rattle.block.specs.Block.{blockSize, sampleSize, count, slot, samplesIn}
 use Rattle.log.specs.Log.{blocks, block, sound, samples, total, placeOf}
 use Rattle.log.specs.Contracts.{sampleRefusal, Placed}
-use Rattle.log.proofs.Blocks.{sound-count}
-use Rattle.log.proofs.Logs.{sound-less, sound-block, samples-length, samples-at, total-more}
+use Rattle.block.proofs.Blocks.{sound-count, samples-length, samples-at}
+use Rattle.log.proofs.Logs.{sound-less, sound-block, total-more}
 use Rattle.log.proofs.Fits.{Fit, fit-sound}
 
 module _ (log : List ℕ) where

@@ -1,22 +1,23 @@
 -- Document 02, Ask 1: each refusal of the calls on a log is given exactly when the ask says so, and in its order; what a log may be;
--- and the ask's own example, before and after Ask 9.
+-- and that the first block is the ask's own.
 -- Assumes nothing.
 use mathlib.Core.Path.{_≡_, refl, _∙_}
 use mathlib.Core.Logic.{_↔_}
 use mathlib.Core.Bool.{true, false, _&&_, _||_}
-use mathlib.Core.List.{List, [], _∷_, _++_}
+use mathlib.Core.List.{List, [], _∷_}
 use Prim.Native.Nat.{ℕ, suc, _*_, _≤_, _<_}
 use native.Mathlib.Omega.{arith}
 use lib.Dec.{leb, eqb}
-use lib.ListN.{length, replicate}
+use lib.ListN.{length}
 use borrow.Author.Tests.{lt-leb, ne-eqb}
-use Rattle.laws.specs.Tests.{if_then_else_, Row, noneOf}
-use Rattle.laws.specs.Lists.{at, table, sum}
+use Rattle.laws.specs.Tests.{Row, noneOf}
+use Rattle.laws.specs.Lists.{at, table}
 use Rattle.laws.proofs.Rows.{first-exact, first-none}
-use Rattle.log.specs.Block.{blockSize, number, count, anyTo, summary, checkOf, sealed, holds, soundBlock, fresh}
+use Rattle.block.specs.Block.{blockSize, number, count, fresh}
 use Rattle.log.specs.Log.{blocks, block, samples, total, needsNew, afterPowerUp, wrongSample, unsound, noneLeft, addRows, powerUpRows, sampleRows}
 use Rattle.log.specs.Contracts.{addRefusal, powerUpRefusal, sampleRefusal}
-use Rattle.log.proofs.Blocks.{fresh-length}
+use Rattle.block.proofs.Blocks.{fresh-length}
+use Rattle.block.proofs.Examples.{firstOpened, first-block}
 use Rattle.log.proofs.Logs.{sound-same, samples-same, blocks-same, put-here}
 
 -- ---- in the ask's order
@@ -96,18 +97,6 @@ module _ (log t : List ℕ) (used : ℕ) (long : length t ≡ length log) (fits 
 
 -- ---- "Block 1 with no samples has 1 in byte 3 .. and zeros elsewhere"; "(Ask 1's empty block: 504 is 1, 511 is 2)"
 
-abbrev pub firstOpened : ℕ → ℕ
-firstOpened i = if eqb i 3 || eqb i 504 then 1 else (if eqb i 511 then 2 else 0)
-
-pub first-block : fresh 1 ≡ table blockSize firstOpened
-unfolding fresh sealed checkOf summary anyTo sum table
-first-block = refl
-
--- and it is what a power-up leaves of the first block of any memory
+-- it is what a power-up leaves of the first block of any memory
 pub first-opened : (log : List ℕ) → blockSize ≤ length log → block (afterPowerUp log 0) 0 ≡ table blockSize firstOpened
 first-opened log h = put-here log 0 (fresh 1) (fresh-length 1) (omega arith) ∙ first-block
-
--- the one that Ask 1 had, without a summary, remains sound
-pub old-block : soundBlock (0 ∷ 0 ∷ 0 ∷ 1 ∷ (replicate 507 0 ++ (1 ∷ []))) ≡ true
-unfolding soundBlock holds checkOf summary anyTo sum table
-old-block = refl

@@ -15,7 +15,7 @@ use Rattle.laws.specs.Lists.{at, part}
 use Rattle.laws.proofs.Tests.{case}
 use Rattle.laws.proofs.Lists.{patch-length, patch-in, patch-else, is-patch}
 use Rattle.laws.proofs.Parts.{part-part, part-tail}
-use Rattle.log.specs.Block.{blockSize, number, count, fresh, grown}
+use Rattle.block.specs.Block.{blockSize, number, count, fresh, grown}
 use Rattle.log.specs.Log.{blocks, block, sound, samples, lastNumber, needsNew, put, newBlock, afterPowerUp, afterAdd, usedAfter, wrongSample, unsound, noneLeft}
 use Rattle.log.specs.Contracts.{addRefusal, powerUpRefusal}
 use Rattle.log.proofs.Logs.{sound-same, samples-same, stretch-block, stretch-samples, stretch-sound}

@@ -5,27 +5,12 @@ use mathlib.Core.Bool.{true}
 use mathlib.Core.List.{List}
 use Prim.Native.Nat.{ℕ, suc, _-_, _<_}
 use native.Mathlib.Omega.{arith}
-use lib.ListN.{length}
-use Rattle.laws.specs.Lists.{at}
-use Rattle.log.specs.Block.{sampleSize, numberBytes, count, mostSamples, hasSummary, fresh, grown}
+use Rattle.block.specs.Block.{count, mostSamples, hasSummary, grown}
 use Rattle.log.specs.Log.{block, lastNumber, newBlock, afterPowerUp, afterAdd, usedAfter}
 use Rattle.log.specs.Contracts.{addRefusal, powerUpRefusal}
-use Rattle.log.proofs.Sealed.{sealed-summary}
-use Rattle.log.proofs.Blocks.{fresh-length, fresh-count, grown-length, places}
+use Rattle.block.proofs.Blocks.{fresh-length, fresh-count, fresh-summary, grown-length, grown-summary}
 use Rattle.log.proofs.Logs.{put-here}
 use Rattle.log.proofs.Calls.{left-over, add-elim, add-taken, power-up-room}
-
--- ---- a block
-
-fresh-summary : (n : ℕ) → hasSummary (fresh n) ≡ true
-unfolding fresh
-fresh-summary n = sealed-summary (at (numberBytes n)) (omega arith)
-
-grown-summary : (b x : List ℕ) → count b < mostSamples → length x ≡ sampleSize → hasSummary (grown b x) ≡ true
-unfolding grown
-grown-summary b x room long = sealed-summary (places b x room long) (omega arith)
-
--- ---- a log
 
 -- block `usedAfter - 1` is the one that an add writes
 pub add-summary : (log : List ℕ) (used : ℕ) (x : List ℕ) → addRefusal log used x ≡ 0 → hasSummary (block (afterAdd log used x) (usedAfter log used - 1)) ≡ true

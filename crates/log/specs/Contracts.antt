@@ -1,6 +1,7 @@
 -- What each call on a log promises, for every input: an equation for each thing that it leaves or answers.
 -- Assumes nothing.
-use Rattle.laws.specs.Words.{ℕ, suc, _+_, _<_, _≡_, List, [], _∷_, _++_, eqb, getD, if_then_else_, firstOf, at, RefT, ptr, now}
+use Rattle.laws.specs.Words.{ℕ, suc, _+_, _≡_, List, [], _∷_, _++_, eqb, getD, if_then_else_, firstOf, RefT, ptr, now}
+use Rattle.block.specs.Block.{Bytes}
 use Rattle.log.specs.Log.{samples, placeOf, afterPowerUp, afterAdd, usedAfter, addRows, powerUpRows, sampleRows}
 
 abbrev pub addRefusal : List ℕ → ℕ → List ℕ → ℕ
@@ -35,10 +36,6 @@ pub record Shown (log : RefT (List ℕ)) (used k : ℕ) (r : RefT (List ℕ)) : 
   pub place-is : sampleRefusal (now log) used k ≡ 0 → ptr r ≡ (ptr log .0, placeOf (now log) used k + ptr log .1)
 
 -- ---- a log from its beginning
-
--- every number of the memory is a byte
-abbrev pub Bytes : List ℕ → Type 0
-Bytes s = (i : ℕ) → at s i < 256
 
 -- the memory t with n blocks used is what calls leave of the memory log with none used, one after the other, each keeping its contract,
 -- and the samples xs were accepted, in this order; whoever is refused keeps the used number

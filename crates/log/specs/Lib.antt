@@ -1,4 +1,2 @@
-pub mod Block
 pub mod Log
 pub mod Contracts
-pub mod Search

@@ -1,7 +1,7 @@
 -- Document 02, Ask 1: a log, lent memory of whole blocks "of which the first so many are used".
 -- Assumes nothing.
 use Rattle.laws.specs.Words.{ℕ, zero, suc, _+_, _-_, _*_, _/_, _%_, Bool, true, not, _&&_, _||_, List, [], _∷_, _++_, length, eqb, ltb, leb, if_then_else_, Row, at, patch, part}
-use Rattle.log.specs.Block.{blockSize, sampleSize, number, count, mostSamples, slot, samplesIn, soundBlock, fresh, grown}
+use Rattle.block.specs.Block.{blockSize, sampleSize, number, count, mostSamples, slot, samplesIn, soundBlock, fresh, grown}
 
 -- ---- blocks
 

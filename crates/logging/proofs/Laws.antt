@@ -12,10 +12,10 @@ use borrow.Author.Tests.{eq-eqb}
 use borrow.Rule.Slice.PartMut.{putMid}
 use Rattle.laws.specs.Tests.{firstOf}
 use Rattle.laws.proofs.Parts.{put-back}
-use Rattle.log.specs.Block.{blockSize, sampleSize, number, count, mostSamples, grown}
+use Rattle.block.specs.Block.{blockSize, sampleSize, number, count, mostSamples, grown}
 use Rattle.log.specs.Log.{block, lastNumber, needsNew, put, newBlock, wrongSample, unsound, noneLeft}
 use Rattle.log.specs.Contracts.{addRefusal, powerUpRefusal}
-use Rattle.log.proofs.Blocks.{fresh-length, fresh-count}
+use Rattle.block.proofs.Blocks.{fresh-length, fresh-count}
 use Rattle.log.proofs.Logs.{put-length, put-here, put-put}
 
 -- ---- the last used block

@@ -1,10 +1,10 @@
 // The calls that change a log of samples: a sample added, a power-up.
 // Proved: for every memory, used number and sample, the refusal, the used number after it and the bytes left are those of document
-// 02's Ask 1 and Ask 9 (log/specs).
+// 02's Ask 1 and Ask 9 (block/specs, log/specs).
 ghost use mathlib.Core.Path.{_≡_};
 ghost use Prim.Native.Nat.{_+_, _*_, _≤_, _<_};
 ghost use lib.ListN.{length};
-ghost use Rattle.log.specs.Block.{blockSize, sampleSize, count, mostSamples, grown};
+ghost use Rattle.block.specs.Block.{blockSize, sampleSize, count, mostSamples, grown};
 ghost use Rattle.log.specs.Log.{block, lastNumber, needsNew, put, noneLeft, newBlock};
 ghost use Rattle.log.specs.Contracts.{addRefusal, powerUpRefusal, Added, Opened};
 use blocks::BLOCK_LEN;

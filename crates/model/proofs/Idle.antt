@@ -5,15 +5,17 @@
 use mathlib.Core.Path.{_≡_, refl, ap, _∙_}
 use mathlib.Core.Bool.{Bool, true, false, _&&_}
 use mathlib.Core.List.{List, [], _∷_}
-use Prim.Native.Nat.{ℕ}
+use Prim.Native.Nat.{ℕ, zero, suc, _+_, _*_}
+use lib.Dec.{eqb}
 use lib.ListN.{length, replicate}
 use borrow.Author.Tests.{eqb-true}
-use Rattle.laws.specs.Tests.{within}
-use Rattle.laws.specs.Lists.{sum, table, patch}
+use Rattle.laws.specs.Tests.{if_then_else_, within}
+use Rattle.laws.specs.Bits.{bit}
+use Rattle.laws.specs.Lists.{at, sum, table, patch}
 use Rattle.laws.proofs.Tests.{and-left, and-right}
 use Rattle.model.specs.Ports.{Port, operator, recorder, State, Call, reset, sample, read, write}
-use Rattle.model.specs.Map.{flags, stateSize, supported, tidy, sound, seat}
-use Rattle.model.specs.Reset.{codesRight, emptied, fresh}
+use Rattle.model.specs.Map.{flags, statusAt, stateSize, supported, tidy, sound, seat}
+use Rattle.model.specs.Reset.{codesRight, emptied, inPage02, fresh}
 use Rattle.model.specs.Samples.{conditions, conds, stored, raised}
 use Rattle.model.specs.Writing.{written, store, puts}
 use Rattle.model.specs.Refusals.{allMine, rows, refusal, accepted}
@@ -78,9 +80,22 @@ run-leaves m (h ▷ c) e =
 abbrev pub afterReset : State → Calls → State
 afterReset m h = run (step m (reset image)) h
 
--- anything that is read off that state, where all calls are accepted
-pub story : {A : Type 0} (f : State → A) (m : State) (h : Calls) → accepts (step m (reset image)) h ≡ true → f (afterReset m h) ≡ f (leaves (step m (reset image)) h)
-story f m h e = ap f (run-leaves (step m (reset image)) h e)
+-- the state after the reset, in which no place of the image has to be looked up
+unfoldable pub begun : State → State
+begun m = record { mem = λ i. if eqb i statusAt then 1 else (if emptied i then 0 else (if inPage02 i then m .mem i else 0)); own = λ p k. 0 }
+
+zeros : (n i : ℕ) → at (replicate n 0) i ≡ 0
+zeros zero i = refl
+zeros (suc n) zero = refl
+zeros (suc n) (suc i) = zeros n i
+
+pub reset-begun : (m : State) → step m (reset image) ≡ begun m
+unfolding image begun step done fresh refusal rows codesRight sum
+reset-begun m = λ z. record { mem = λ i. if eqb i statusAt then 4 * bit 2 (zeros 640 statusAt z) + 1 else (if emptied i then 0 else (if inPage02 i then m .mem i else zeros 640 i z)); own = λ p k. 0 }
+
+-- anything that is read off a state after it, where all calls are accepted
+pub story : {A : Type 0} (f : State → A) (m : State) (h : Calls) → accepts (begun m) h ≡ true → f (afterReset m h) ≡ f (leaves (begun m) h)
+story f m h e = rw (reset-begun m) (ap f (run-leaves (begun m) h e))
 
 -- flag byte 3, the count, and whether the interrupt stands
 abbrev pub shown : State → Port → ℕ × ℕ × Bool
@@ -88,7 +103,7 @@ shown m p = (seen (m .mem) (m .own p) 3, count (m .own p), stands (m .own p))
 
 -- nothing but a name for the definitions that a story computes through
 unfoldable pub computed : ℕ
-unfolding image accepts leaves run step done refusal rows allMine codesRight sum emptied fresh conditions conds stored raised shared written store puts supported tidy sound seat look seen cleared count stands answer patch table
+unfolding image begun accepts leaves run step done refusal rows allMine codesRight sum emptied fresh conditions conds stored raised shared written store puts supported tidy sound seat look seen cleared count stands answer patch table
 computed = 0
 
 -- ---- the histories
@@ -97,9 +112,8 @@ computed = 0
 pub all-accepted : (m : State) (p : Port)
     → (accepted m (reset image) ≡ true) × (accepts (step m (reset image)) (start ▷ loss ▷ looks p ▷ loss) ≡ true)
     × (accepts (step m (reset image)) (start ▷ loss ▷ masks p) ≡ true)
-unfolding computed
-all-accepted m operator = (refl, refl, refl)
-all-accepted m recorder = (refl, refl, refl)
+all-accepted m operator = (unfold computed in refl, rw (reset-begun m) (unfold computed in refl), rw (reset-begun m) (unfold computed in refl))
+all-accepted m recorder = (unfold computed in refl, rw (reset-begun m) (unfold computed in refl), rw (reset-begun m) (unfold computed in refl))
 
 -- so every 688 bytes have an accepted reset, as the demands ask for
 pub begins : (s : List ℕ) → length s ≡ stateSize → refusalOf s (reset image) ≡ 0
@@ -107,8 +121,7 @@ begins s e = refusal-long s (reset image) e ∙ eqb-true (refusal (stateOf s) (r
 
 -- "Both records are all 0" after a reset: no flag is up
 pub none-at-first : (m : State) (p : Port) (b : ℕ) → within flags b ≡ true → seen (afterReset m start .mem) (afterReset m start .own p) b ≡ 0
-unfolding computed
-none-at-first m p b e = rw e
+none-at-first m p b e = rw (reset-begun m) (unfold computed in rw e)
 
 -- "A sample ORs its conditions into both ports' flags": it raises a flag for either port, and its interrupt stands
 pub rises-for-both : (m : State) (p : Port) → shown (afterReset m (start ▷ loss)) p ≡ (1, 1, true)

@@ -14,12 +14,12 @@ use Rattle.laws.specs.Tests.{if_then_else_}
 use Rattle.laws.specs.Bits.{has}
 use Rattle.laws.specs.Lists.{at, part}
 use Rattle.laws.proofs.Tests.{case}
-use Rattle.log.specs.Block.{blockSize, sampleSize, count, mostSamples, slot, samplesTo}
+use Rattle.block.specs.Block.{blockSize, sampleSize, count, mostSamples, slot, samplesTo}
 use Rattle.log.specs.Log.{block, total, misfit}
-use Rattle.log.specs.Search.{firstIn, passed, firstOfBlock, firstWith, crowded, refused, given, firstTold}
-use Rattle.log.proofs.Logs.{samples-length}
-use Rattle.log.proofs.Search.{first-append, lit-at}
-use Rattle.log.proofs.Least.{crowded-block, total-few}
+use Rattle.question.specs.Search.{firstIn, passed, firstOfBlock, firstWith, crowded, refused, given, firstTold}
+use Rattle.block.proofs.Blocks.{samples-length}
+use Rattle.question.proofs.Search.{first-append, lit-at}
+use Rattle.question.proofs.Least.{crowded-block, total-few}
 
 -- ---- counts
 

@@ -4,7 +4,7 @@ use mathlib.Core.Path.{_≡_, refl, sym, ap, _∙_}
 use mathlib.Core.List.{List}
 use mathlib.Core.Option.{none, some}
 use Prim.Native.Nat.{ℕ}
-use Rattle.log.specs.Search.{Answer, refused, given, firstTold}
+use Rattle.question.specs.Search.{Answer, refused, given, firstTold}
 use Rattle.searching.specs.Meaning.{firstSays}
 use Rattle.searching.specs.declared.First.{First}
 use Rattle.searching.specs.declared.First.the-variants as firsts

@@ -1,7 +1,7 @@
 -- What the answer of `searching` stands for: the number of a refusal, or Ask 9's position.
 -- Assumes nothing.
 use Rattle.laws.specs.Words.{none, some}
-use Rattle.log.specs.Search.{Answer, refused, given}
+use Rattle.question.specs.Search.{Answer, refused, given}
 use Rattle.searching.specs.declared.First as first
 use Rattle.searching.specs.declared.First.the-variants as firsts
 

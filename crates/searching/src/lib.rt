@@ -1,5 +1,5 @@
 // When did that line die? The first sample of a log that has a status bit.
-// Proved: for every memory, sound or not, used number and bit, the answer is that of document 02's Ask 9 (log/specs).
+// Proved: for every memory, sound or not, used number and bit, the answer is that of document 02's Ask 9 (question/specs).
 // To be seen in the code, and not proved: of a block that is passed over three bytes are looked at.
 ghost use mathlib.Core.Path.{_≡_};
 ghost use mathlib.Core.Bool.{false};
@@ -9,9 +9,9 @@ ghost use lib.Dec.{ltb};
 ghost use lib.ListN.{length};
 ghost use Rattle.laws.specs.Tests.{if_then_else_};
 ghost use Rattle.laws.specs.Bits.{has};
-ghost use Rattle.log.specs.Block.{blockSize, count, mostSamples, samplesTo};
+ghost use Rattle.block.specs.Block.{blockSize, count, mostSamples, samplesTo};
 ghost use Rattle.log.specs.Log.{block};
-ghost use Rattle.log.specs.Search.{firstIn, passed, firstOfBlock, firstWith, crowded, refused, given, firstTold};
+ghost use Rattle.question.specs.Search.{firstIn, passed, firstOfBlock, firstWith, crowded, refused, given, firstTold};
 ghost use Rattle.searching.specs.Meaning.{firstSays};
 use blocks::MARK_AT;
 use blocks::ROOM_AT;

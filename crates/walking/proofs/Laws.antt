@@ -10,7 +10,7 @@ use lib.Dec.{eqb}
 use lib.ListN.{length}
 use borrow.Author.Tests.{ne-eqb, eqb-true, not-true}
 use Rattle.laws.proofs.Tests.{case, and-left, and-right, and-both, not-both}
-use Rattle.log.specs.Block.{blockSize, number, soundBlock}
+use Rattle.block.specs.Block.{blockSize, number, soundBlock}
 use Rattle.log.specs.Log.{block, follows, sound, lastNumber, misfit, unsound}
 use Rattle.log.proofs.Logs.{sound-block, sound-follows}
 use Rattle.log.proofs.Fits.{fitting, fit}

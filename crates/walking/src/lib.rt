@@ -4,7 +4,7 @@ ghost use mathlib.Core.Path.{_≡_};
 ghost use mathlib.Core.Bool.{true, false};
 ghost use Prim.Native.Nat.{_+_, _*_, _≤_};
 ghost use lib.ListN.{length};
-ghost use Rattle.log.specs.Block.{blockSize};
+ghost use Rattle.block.specs.Block.{blockSize};
 ghost use Rattle.log.specs.Log.{block, sound, misfit, unsound};
 use blocks::BLOCK_LEN;
 

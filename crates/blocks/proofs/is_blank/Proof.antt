@@ -8,7 +8,7 @@ use lib.Dec.{eqb}
 use borrow.Author.Needs.{needs}
 use Rattle.laws.proofs.Zeros.{or-none}
 use Rattle.laws.specs.Lists.{at}
-use Rattle.log.specs.Block.{holds}
+use Rattle.block.specs.Block.{holds}
 use Rattle.blocks.proofs.is_blank.Statement.{statement}
 use Rattle.blocks.proofs.is_blank.Tie as tie
 

@@ -5,7 +5,7 @@ use Prim.Native.Nat.{ℕ, _+_, _-_, _≤_}
 use native.Mathlib.Omega.{arith}
 use borrow.Author.Needs.{needs}
 use Rattle.laws.specs.Lists.{at}
-use Rattle.log.specs.Block.{slot, anyTo}
+use Rattle.block.specs.Block.{slot, anyTo}
 use Rattle.blocks.proofs.Ends.{any-next}
 use Rattle.blocks.proofs.status_of.Statement.{statement}
 use Rattle.blocks.proofs.status_of.Tie as tie

@@ -5,9 +5,9 @@ use Prim.Native.Nat.{_+_, _-_, _*_, _≤_, _<_}
 use native.Mathlib.Omega.{arith}
 use lib.ListN.{length}
 use borrow.Author.Needs.{needs}
-use Rattle.log.specs.Block.{blockSize, count, mostSamples}
+use Rattle.block.specs.Block.{blockSize, count, mostSamples}
 use Rattle.log.specs.Log.{block, samples, total}
-use Rattle.log.proofs.Blocks.{sound-count}
+use Rattle.block.proofs.Blocks.{sound-count}
 use Rattle.log.proofs.Logs.{sound-block}
 use Rattle.finding.proofs.Laws.{found-here, passed-on, none-here}
 use Rattle.finding.proofs.find.Statement.{statement}

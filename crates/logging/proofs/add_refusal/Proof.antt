@@ -4,7 +4,7 @@ use mathlib.Core.Path.{refl, sym, _∙_}
 use lib.ListN.{length}
 use borrow.Author.Needs.{needs}
 use borrow.Author.Tests.{ne-eqb}
-use Rattle.log.specs.Block.{sampleSize}
+use Rattle.block.specs.Block.{sampleSize}
 use Rattle.walking.proofs.Laws.{fits-in}
 use Rattle.logging.proofs.Laws.{right-sample, add-by-tests}
 use Rattle.logging.proofs.add_refusal.Statement.{statement}

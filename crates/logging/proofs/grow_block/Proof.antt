@@ -6,9 +6,9 @@ use native.Mathlib.Omega.{arith}
 use lib.ListN.{length}
 use borrow.Author.Needs.{needs}
 use Rattle.laws.proofs.Lists.{part-length}
-use Rattle.log.specs.Block.{blockSize, grown}
+use Rattle.block.specs.Block.{blockSize, grown}
 use Rattle.log.specs.Log.{block, put}
-use Rattle.log.proofs.Blocks.{grown-length}
+use Rattle.block.proofs.Blocks.{grown-length}
 use Rattle.logging.proofs.Laws.{block-back}
 use Rattle.logging.proofs.grow_block.Statement.{statement}
 use Rattle.logging.proofs.grow_block.Tie as tie

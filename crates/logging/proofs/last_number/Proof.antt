@@ -2,7 +2,7 @@
 -- Assumes nothing.
 use mathlib.Core.Path.{ap, _∙_}
 use borrow.Author.Needs.{needs}
-use Rattle.log.specs.Block.{number}
+use Rattle.block.specs.Block.{number}
 use Rattle.logging.proofs.Laws.{last-is}
 use Rattle.logging.proofs.last_number.Statement.{statement}
 use Rattle.logging.proofs.last_number.Tie as tie

@@ -5,9 +5,9 @@ use Prim.Native.Nat.{suc, _+_}
 use native.Mathlib.Numerals.{add-one}
 use lib.ListN.{length}
 use borrow.Author.Needs.{needs}
-use Rattle.log.specs.Block.{fresh}
+use Rattle.block.specs.Block.{fresh}
 use Rattle.log.specs.Log.{lastNumber, put, newBlock}
-use Rattle.log.proofs.Blocks.{fresh-length}
+use Rattle.block.proofs.Blocks.{fresh-length}
 use Rattle.logging.proofs.Laws.{block-back}
 use Rattle.logging.proofs.open_block.Statement.{statement}
 use Rattle.logging.proofs.open_block.Tie as tie

@@ -6,8 +6,8 @@ use Prim.Native.Nat.{_-_, _≤_}
 use native.Mathlib.Omega.{arith}
 use borrow.Author.Needs.{needs}
 use borrow.Author.Tests.{le-ltb}
-use Rattle.log.specs.Block.{samplesTo}
-use Rattle.log.specs.Search.{firstIn}
+use Rattle.block.specs.Block.{samplesTo}
+use Rattle.question.specs.Search.{firstIn}
 use Rattle.searching.proofs.Laws.{in-next, in-found}
 use Rattle.searching.proofs.before_first.Statement.{statement}
 use Rattle.searching.proofs.before_first.Tie as tie

@@ -3,7 +3,7 @@
 use mathlib.Core.Path.{refl, sym, _∙_}
 use native.Mathlib.Omega.{arith}
 use borrow.Author.Needs.{needs}
-use Rattle.log.specs.Search.{crowded}
+use Rattle.question.specs.Search.{crowded}
 use Rattle.walking.proofs.Laws.{fits-blocks}
 use Rattle.searching.proofs.Laws.{misfit-refused, answered, crowded-first, bit-refused}
 use Rattle.searching.proofs.first_with.Statement.{statement}

@@ -3,7 +3,7 @@
 use mathlib.Core.Path.{_≡_, refl, sym, _∙_}
 use mathlib.Core.Bool.{true, false}
 use borrow.Author.Needs.{needs}
-use Rattle.log.specs.Search.{crowded}
+use Rattle.question.specs.Search.{crowded}
 use Rattle.searching.proofs.Laws.{crowded-next}
 use Rattle.searching.proofs.found.Statement.{statement}
 use Rattle.searching.proofs.found.Tie as tie

@@ -5,7 +5,7 @@ use mathlib.Core.Bool.{false}
 use Prim.Native.Nat.{_-_, _≤_}
 use native.Mathlib.Omega.{arith}
 use borrow.Author.Needs.{needs}
-use Rattle.log.specs.Search.{crowded}
+use Rattle.question.specs.Search.{crowded}
 use Rattle.searching.proofs.Laws.{crowded-next, crowded-found}
 use Rattle.searching.proofs.is_crowded.Statement.{statement}
 use Rattle.searching.proofs.is_crowded.Tie as tie

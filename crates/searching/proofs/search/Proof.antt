@@ -8,9 +8,9 @@ use native.Mathlib.Numerals.{add-one}
 use native.Mathlib.Omega.{arith}
 use lib.ListN.{length}
 use borrow.Author.Needs.{needs}
-use Rattle.log.specs.Block.{count, mostSamples}
+use Rattle.block.specs.Block.{count, mostSamples}
 use Rattle.log.specs.Log.{block, samples, total}
-use Rattle.log.specs.Search.{firstWith, crowded}
+use Rattle.question.specs.Search.{firstWith, crowded}
 use Rattle.log.proofs.Logs.{total-more}
 use Rattle.searching.proofs.Laws.{crowded-found, crowded-next, total-fits, InBlock, told-found, told-none, with-next, with-found}
 use Rattle.searching.proofs.search.Statement.{statement}

@@ -5,7 +5,7 @@ use Prim.Native.Nat.{_+_, _-_, _*_}
 use native.Mathlib.Omega.{arith}
 use borrow.Author.Needs.{needs}
 use Rattle.laws.proofs.Lists.{part-length}
-use Rattle.log.specs.Block.{blockSize}
+use Rattle.block.specs.Block.{blockSize}
 use Rattle.walking.proofs.block_of.Statement.{statement}
 use Rattle.walking.proofs.block_of.Tie as tie
 

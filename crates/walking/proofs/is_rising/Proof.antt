@@ -7,7 +7,7 @@ use native.Mathlib.Numerals.{add-one}
 use native.Mathlib.Omega.{arith}
 use borrow.Author.Needs.{needs}
 use Rattle.log.specs.Log.{block, sound, lastNumber}
-use Rattle.log.specs.Block.{number, soundBlock}
+use Rattle.block.specs.Block.{number, soundBlock}
 use Rattle.walking.proofs.Laws.{follows-on, follows-not, counted-on, ends-number, ends-block, goes-on}
 use Rattle.walking.proofs.is_rising.Statement.{statement}
 use Rattle.walking.proofs.is_rising.Tie as tie

@@ -7,16 +7,17 @@ use mathlib.Core.Bool.{true, false, _&&_}
 use mathlib.Core.List.{List, [], _∷_, _++_}
 use Prim.Native.Nat.{ℕ, zero, suc, _+_, _-_, _/_, _%_, _≤_, _<_}
 use native.Mathlib.Omega.{arith}
-use lib.Dec.{leb, eqb}
-use lib.ListN.{length}
-use borrow.Author.Tests.{leb-true, ne-eqb, eqb-true}
+use lib.Dec.{leb, ltb, eqb}
+use lib.ListN.{length, length-append, getD, List·getD-append}
+use lib.Seq.{getD-append-seam}
+use borrow.Author.Tests.{leb-true, ltb-true, ltb-false, ne-eqb, eqb-true}
 use Rattle.laws.specs.Tests.{if_then_else_, covers}
 use Rattle.laws.specs.Lists.{at, part}
-use Rattle.laws.proofs.Tests.{and-left, and-right, covers-in, covers-below, covers-above}
+use Rattle.laws.proofs.Tests.{case, and-left, and-right, covers-in, covers-below, covers-above}
 use Rattle.laws.proofs.Lists.{table-length}
 use Rattle.laws.proofs.Parts.{part-same, is-part}
-use Rattle.log.specs.Block.{blockSize, sampleSize, number, numberBytes, countAt, count, mostSamples, slot, roomEnd, samplesTo, samplesIn, checkAt, checkOf, sealed, holds, summed, checked, ended, soundBlock, fresh, grown}
-use Rattle.log.proofs.Sealed.{holds-at, sealed-at, sealed-sound}
+use Rattle.block.specs.Block.{blockSize, sampleSize, number, numberBytes, countAt, count, mostSamples, slot, roomEnd, samplesTo, samplesIn, checkAt, checkOf, sealed, holds, summed, hasSummary, checked, ended, soundBlock, fresh, grown}
+use Rattle.block.proofs.Sealed.{holds-at, sealed-at, sealed-summary, sealed-sound}
 
 -- ---- what a sound block says of its places
 
@@ -142,3 +143,30 @@ module _ (b x : List ℕ) (room : count b < mostSamples) (long : length x ≡ sa
   grown-sound s =
       sealed-sound places (omega arith)
       (λ i h l. rw (ne-eqb i countAt (λ z. omega arith), covers-above (slot (count b)) sampleSize i (omega arith)) (sound-room b s i (omega arith) l))
+
+-- ---- its samples
+
+pub samples-length : (b : List ℕ) (k : ℕ) → length (samplesTo b k) ≡ k
+unfolding samplesTo
+samples-length b zero = refl
+samples-length b (suc k) = length-append (samplesTo b k) (part (slot k) sampleSize b ∷ []) ∙ rw (samples-length b k) (omega arith)
+
+pub samples-at : (b : List ℕ) (n k : ℕ) → k < n → getD (samplesTo b n) k [] ≡ part (slot k) sampleSize b
+unfolding samplesTo
+samples-at b zero k h = absurd (omega arith)
+samples-at b (suc n) k h =
+    let l = samples-length b n in
+    case (ltb k n)
+    (λ t. let m = ltb-true k n t in List·getD-append (samplesTo b n) (part (slot n) sampleSize b ∷ []) [] k (omega arith) ∙ samples-at b n k m)
+    (λ t. let m = ltb-false k n t in let z : k ≡ n = omega arith in
+    rw z (rw l at (getD-append-seam (samplesTo b n) (part (slot n) sampleSize b) [] [])))
+
+-- ---- the summary of a block that is written
+
+pub fresh-summary : (n : ℕ) → hasSummary (fresh n) ≡ true
+unfolding fresh
+fresh-summary n = sealed-summary (at (numberBytes n)) (omega arith)
+
+pub grown-summary : (b x : List ℕ) → count b < mostSamples → length x ≡ sampleSize → hasSummary (grown b x) ≡ true
+unfolding grown
+grown-summary b x room long = sealed-summary (places b x room long) (omega arith)

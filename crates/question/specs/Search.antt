@@ -1,8 +1,8 @@
 -- Document 02, Ask 9: "When did that line die?" The first sample of a log that has a status bit.
 -- Assumes nothing.
-use Rattle.laws.specs.Words.{ℕ, zero, suc, _+_, _/_, _%_, Bool, false, not, _&&_, _||_, List, [], _∷_, Option, none, some, length, eqb, ltb, if_then_else_, Row, firstOf, has, at}
-use Rattle.log.specs.Block.{count, mostSamples, roomEnd, markAt, samplesIn}
+use Rattle.laws.specs.Words.{ℕ, zero, suc, _+_, _/_, _%_, Bool, false, not, _&&_, _||_, List, [], _∷_, Option, none, some, eqb, ltb, if_then_else_, Row, firstOf, has, at}
+use Rattle.block.specs.Block.{count, mostSamples, roomEnd, markAt, samplesIn}
 use Rattle.log.specs.Log.{block, total, misfit}
 
 -- ---- a status bit: "8 times the byte, 0 to 2, plus the bit"
 

@@ -14,11 +14,11 @@ use Rattle.laws.specs.Tests.{Row, noneOf}
 use Rattle.laws.specs.Lists.{at}
 use Rattle.laws.proofs.Tests.{case}
 use Rattle.laws.proofs.Rows.{first-exact, first-none}
-use Rattle.log.specs.Block.{blockSize}
+use Rattle.block.specs.Block.{blockSize}
 use Rattle.log.specs.Log.{block}
-use Rattle.log.specs.Search.{firstWith, crowded, misshapen, firstRows, firstRefusal, Answer, refused, given, firstTold}
+use Rattle.question.specs.Search.{firstWith, crowded, misshapen, firstRows, firstRefusal, Answer, refused, given, firstTold}
 use Rattle.log.proofs.Logs.{samples-same, blocks-same, total-more}
-use Rattle.log.proofs.Least.{Least, total-few, shapely, total-less, first-least, least-only}
+use Rattle.question.proofs.Least.{Least, total-few, shapely, total-less, first-least, least-only}
 
 -- ---- refusals, in the ask's order
 

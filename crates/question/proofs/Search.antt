@@ -15,12 +15,12 @@ use Rattle.laws.specs.Lists.{at, part}
 use Rattle.laws.proofs.Tests.{case, not-both, and-left, and-right, or-left, or-right}
 use Rattle.laws.proofs.Lists.{part-length, part-at}
 use Rattle.laws.proofs.Bits.{has-or}
-use Rattle.log.specs.Block.{blockSize, sampleSize, count, mostSamples, slot, roomEnd, samplesIn, anyTo, summary, holds, summed, checked, soundBlock}
+use Rattle.block.specs.Block.{blockSize, sampleSize, count, mostSamples, slot, roomEnd, samplesIn, anyTo, summary, holds, summed, checked, soundBlock}
 use Rattle.log.specs.Log.{blocks, block, sound, samples}
-use Rattle.log.specs.Search.{lit, further, orElse, firstIn, passed, firstOfBlock, firstWith}
-use Rattle.log.proofs.Sealed.{holds-at}
-use Rattle.log.proofs.Blocks.{sound-count, sound-ended}
-use Rattle.log.proofs.Logs.{sound-less, sound-block, samples-length, samples-at}
+use Rattle.question.specs.Search.{lit, further, orElse, firstIn, passed, firstOfBlock, firstWith}
+use Rattle.block.proofs.Sealed.{holds-at}
+use Rattle.block.proofs.Blocks.{sound-count, sound-ended, samples-length, samples-at}
+use Rattle.log.proofs.Logs.{sound-less, sound-block}
 
 -- ---- a list of samples
 

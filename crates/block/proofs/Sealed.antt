@@ -11,7 +11,7 @@ use Rattle.laws.specs.Lists.{at, table, sum}
 use Rattle.laws.proofs.Tests.{case, and-left, and-right, and-both}
 use Rattle.laws.proofs.Lists.{table-at}
 use Rattle.laws.proofs.Parts.{table-same}
-use Rattle.log.specs.Block.{blockSize, countAt, count, mostSamples, slot, roomEnd, anyTo, summary, checkAt, first510, checkOf, sealed, holds, hasSummary, checked, ended, soundBlock}
+use Rattle.block.specs.Block.{blockSize, countAt, count, mostSamples, slot, roomEnd, anyTo, summary, checkAt, first510, checkOf, sealed, holds, hasSummary, checked, ended, soundBlock}
 
 -- ---- places that hold what they should
 
@@ -22,7 +22,7 @@ holds-at a (suc n) f b e j h = case (eqb j n)
     (λ t. let z = eqb-true j n t in rw z (eqb-true (at b (a + n)) (f n) (and-right (holds a n f b) (eqb (at b (a + n)) (f n)) e)))
     (λ t. let d = eqb-false j n t in holds-at a n f b (and-left (holds a n f b) (eqb (at b (a + n)) (f n)) e) j (omega arith))
 
-at-holds : (a n : ℕ) (f : ℕ → ℕ) (b : List ℕ) → ((j : ℕ) → j < n → at b (a + j) ≡ f j) → holds a n f b ≡ true
+pub at-holds : (a n : ℕ) (f : ℕ → ℕ) (b : List ℕ) → ((j : ℕ) → j < n → at b (a + j) ≡ f j) → holds a n f b ≡ true
 unfolding holds
 at-holds a zero f b same = refl
 at-holds a (suc n) f b same = and-both (at-holds a n f b (λ j h. same j (omega arith))) (eq-eqb (at b (a + n)) (f n) (same n (omega arith)))

@@ -14,17 +14,17 @@ use borrow.Author.Tests.{le-ltb, ltb-false}
 use Rattle.laws.specs.Tests.{if_then_else_}
 use Rattle.laws.specs.Lists.{part}
 use Rattle.laws.proofs.Tests.{case}
-use Rattle.log.specs.Block.{sampleSize}
+use Rattle.block.specs.Block.{sampleSize, Bytes}
 use Rattle.log.specs.Log.{blocks, samples, total, afterPowerUp, afterAdd, usedAfter}
-use Rattle.log.specs.Contracts.{addRefusal, powerUpRefusal, Added, Opened, Placed, Shown, Bytes}
-use Rattle.log.specs.Search.{lit, orElse, firstIn, refused, given, firstTold}
+use Rattle.log.specs.Contracts.{addRefusal, powerUpRefusal, Added, Opened, Placed, Shown}
+use Rattle.question.specs.Search.{lit, orElse, firstIn, refused, given, firstTold}
 use Rattle.log.proofs.Fits.{Fit}
 use Rattle.log.proofs.Calls.{add-taken, add-sound, add-samples, power-up-taken, power-up-sound, power-up-samples}
 use Rattle.log.proofs.Positions.{sample-taken, sample-placed}
 use Rattle.log.proofs.Kept.{Known}
-use Rattle.log.proofs.Search.{first-is, first-only, first-append, search-reads}
-use Rattle.log.proofs.Least.{sound-crowded}
-use Rattle.log.proofs.Told.{first-given}
+use Rattle.question.proofs.Search.{first-is, first-only, first-append, search-reads}
+use Rattle.question.proofs.Least.{sound-crowded}
+use Rattle.question.proofs.Told.{first-given}
 
 -- ---- a sound log
 

@@ -1,6 +1,6 @@
 -- Document 02, Ask 1 and Ask 9: a block of a log, 512 bytes.
 -- Assumes nothing.
-use Rattle.laws.specs.Words.{ℕ, zero, suc, _+_, _-_, _*_, _/_, _%_, Bool, true, _&&_, _||_, List, [], _∷_, _++_, bitOr, eqb, ltb, leb, if_then_else_, covers, at, table, part, sum}
+use Rattle.laws.specs.Words.{ℕ, zero, suc, _+_, _-_, _*_, _/_, _%_, _<_, Bool, true, _&&_, _||_, List, [], _∷_, _++_, bitOr, eqb, ltb, leb, if_then_else_, covers, at, table, part, sum}
 
 -- ---- its fields
 
@@ -117,3 +117,9 @@ fresh n = table blockSize (sealed (at (numberBytes n)))
 unfoldable pub grown : List ℕ → List ℕ → List ℕ
 grown b x =
     table blockSize (sealed (λ i. if eqb i countAt then suc (count b) else (if covers (slot (count b)) sampleSize i then at x (i - slot (count b)) else at b i)))
+
+-- ---- memory of bytes
+
+-- every number of the memory is a byte
+abbrev pub Bytes : List ℕ → Type 0
+Bytes s = (i : ℕ) → at s i < 256

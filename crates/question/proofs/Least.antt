@@ -12,13 +12,13 @@ use lib.ListN.{length, getD}
 use borrow.Author.Tests.{le-ltb, ltb-true, ltb-false, eqb-true, eqb-false}
 use Rattle.laws.specs.Lists.{at, part}
 use Rattle.laws.proofs.Tests.{case, not-both, or-left, or-right}
-use Rattle.log.specs.Block.{blockSize, sampleSize, count, mostSamples, slot, samplesIn}
+use Rattle.block.specs.Block.{blockSize, sampleSize, count, mostSamples, slot, samplesIn}
 use Rattle.log.specs.Log.{block, sound, samples, total, misfit}
-use Rattle.log.specs.Search.{lit, further, orElse, firstIn, passed, firstOfBlock, firstWith, crowded, misshapen}
-use Rattle.log.proofs.Blocks.{sound-count}
-use Rattle.log.proofs.Logs.{sound-less, sound-block, samples-length, samples-at, total-more}
+use Rattle.question.specs.Search.{lit, further, orElse, firstIn, passed, firstOfBlock, firstWith, crowded, misshapen}
+use Rattle.block.proofs.Blocks.{sound-count, samples-length, samples-at}
+use Rattle.log.proofs.Logs.{sound-less, sound-block, total-more}
 use Rattle.log.proofs.Fits.{fitting}
-use Rattle.log.proofs.Search.{FirstIs, first-is}
+use Rattle.question.proofs.Search.{FirstIs, first-is}
 
 -- ---- counts
 

@@ -1,0 +1,5 @@
+pub mod Search
+pub mod Least
+pub mod Told
+pub mod Answers
+pub mod Searched
