@@ -6,7 +6,7 @@ from log_kills import rows_from
 from outputs import without_output
 from station import zikhrodan
 
-SIZES, LONG = (400, 800, 1600), (2000, 10000)
+SIZES, LONG = (112, 224, 448), (2000, 10000)
 # The most instructions for each sample: some twice of what it is, and less than with printf for each number.
 SHOWN = {("--csv",): 25000, ("--json",): 45000, ("--from", 0): 30000}
 DIED = {(): 400, ("rx1",): 400, ("--json",): 400}
