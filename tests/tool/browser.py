@@ -2,9 +2,15 @@
 picture of it, and its printed form.
 
 It is told that no name has an address, and to send what it asks for to a port of this machine that nobody listens at, or to one
-where the test does.
+where the test does. Pages that are read are opened in one browser, one after the other, each in a tab of its own, by its
+debugging protocol; to start one for each would take longer than all else.
 """
+import atexit
+import functools
+import json
+import os
 import re
+import select
 import socket
 import subprocess
 import tempfile
@@ -21,13 +27,79 @@ WORDS = ["chromium", "--headless=new", "--no-sandbox", "--disable-gpu", "--hide-
 NOBODY_LISTENS = 9
 
 
+def command(profile, *words, port=NOBODY_LISTENS):
+    return [*WORDS, f"--user-data-dir={profile}", f"--proxy-server=127.0.0.1:{port}", *words]
+
+
 def browse(page, *words, port=NOBODY_LISTENS):
-    """Opens a page: what is printed."""
+    """Opens a page in a browser of its own."""
     with tempfile.TemporaryDirectory(prefix="browser") as profile:
-        own = [f"--user-data-dir={profile}", f"--proxy-server=127.0.0.1:{port}", *words, Path(page).resolve().as_uri()]
-        done = subprocess.run(WORDS + own, stdin=subprocess.DEVNULL, stdout=subprocess.PIPE, stderr=subprocess.DEVNULL,
-                              timeout=PATIENCE, check=True)
-    return done.stdout.decode("utf-8")
+        subprocess.run(command(profile, *words, Path(page).resolve().as_uri(), port=port), stdin=subprocess.DEVNULL,
+                       stdout=subprocess.DEVNULL, stderr=subprocess.DEVNULL, timeout=PATIENCE, check=True)
+
+
+class Browser:
+    """A browser that is told what to do through two pipes, its descriptors 3 and 4: messages of JSON, each ended by a zero."""
+
+    def __init__(self):
+        self.profile = tempfile.TemporaryDirectory(prefix="browser")
+        (its_in, self.out), (self.into, its_out) = os.pipe(), os.pipe()
+        self.process = subprocess.Popen(
+            ["bash", "-c", f'exec "$@" 3<&{its_in} 4>&{its_out}', "browser",
+             *command(self.profile.name, "--remote-debugging-pipe", "about:blank")],
+            stdin=subprocess.DEVNULL, stdout=subprocess.DEVNULL, stderr=subprocess.DEVNULL, pass_fds=(its_in, its_out))
+        os.close(its_in)
+        os.close(its_out)
+        self.said, self.asked, self.told = b"", 0, []
+
+    def end(self):
+        os.close(self.out)  # it ends when nobody can tell it anything
+        self.process.wait(timeout=PATIENCE)
+        self.profile.cleanup()
+
+    def hear(self):
+        """Its next message."""
+        while b"\0" not in self.said:
+            if not select.select([self.into], [], [], PATIENCE)[0] or not (more := os.read(self.into, 1 << 20)):
+                raise TimeoutError("the browser says nothing")
+            self.said += more
+        message, _, self.said = self.said.partition(b"\0")
+        return json.loads(message)
+
+    def ask(self, method, session=None, **words):
+        """What it answers; what it tells meanwhile is kept."""
+        self.asked += 1
+        asked = {"id": self.asked, "method": method, "params": words} | ({"sessionId": session} if session else {})
+        left = json.dumps(asked).encode() + b"\0"
+        while left:
+            left = left[os.write(self.out, left):]
+        while (answer := self.hear()).get("id") != self.asked:
+            self.told.append(answer.get("method"))
+        if "error" in answer:
+            raise ValueError(f"{method}: {answer['error']}")
+        return answer["result"]
+
+    def read(self, page):
+        """The page as it has read it, once all of it is there."""
+        tab = self.ask("Target.createTarget", url="about:blank")["targetId"]
+        session = self.ask("Target.attachToTarget", targetId=tab, flatten=True)["sessionId"]
+        self.ask("Page.enable", session)
+        self.told = []
+        if "errorText" in (went := self.ask("Page.navigate", session, url=Path(page).resolve().as_uri())):
+            raise ValueError(f"{page}: {went['errorText']}")
+        while "Page.loadEventFired" not in self.told:
+            self.told.append(self.hear().get("method"))
+        whole = self.ask("Runtime.evaluate", session, expression="document.documentElement.outerHTML")
+        self.ask("Target.closeTarget", targetId=tab)
+        return whole["result"]["value"]
+
+
+@functools.cache
+def browser():
+    """The one that is running, which ends with the tests."""
+    one = Browser()
+    atexit.register(one.end)
+    return one
 
 
 def picture(page, width, height):
@@ -110,4 +182,4 @@ class Page(HTMLParser):
 
 
 def read(page):
-    return Page(browse(page, "--dump-dom"))
+    return Page(browser().read(page))
