@@ -3,7 +3,7 @@ picture of it, and its printed form.
 
 It is told that no name has an address, and to send what it asks for to a port of this machine that nobody listens at, or to one
 where the test does. Pages that are read are opened in one browser, one after the other, each in a tab of its own, by its
-debugging protocol; to start one for each would take longer than all else.
+debugging protocol: to start one for each takes longer than all that is read.
 """
 import atexit
 import functools
@@ -74,7 +74,7 @@ class Browser:
         while left:
             left = left[os.write(self.out, left):]
         while (answer := self.hear()).get("id") != self.asked:
-            self.told.append(answer.get("method"))
+            self.told.append(answer)
         if "error" in answer:
             raise ValueError(f"{method}: {answer['error']}")
         return answer["result"]
@@ -84,11 +84,14 @@ class Browser:
         tab = self.ask("Target.createTarget", url="about:blank")["targetId"]
         session = self.ask("Target.attachToTarget", targetId=tab, flatten=True)["sessionId"]
         self.ask("Page.enable", session)
-        self.told = []
-        if "errorText" in (went := self.ask("Page.navigate", session, url=Path(page).resolve().as_uri())):
+        self.ask("Page.setLifecycleEventsEnabled", session, enabled=True)
+        went = self.ask("Page.navigate", session, url=Path(page).resolve().as_uri())
+        if "errorText" in went:
             raise ValueError(f"{page}: {went['errorText']}")
-        while "Page.loadEventFired" not in self.told:
-            self.told.append(self.hear().get("method"))
+        while not any(one.get("params", {}).get("name") == "load" and one["params"].get("loaderId") == went["loaderId"]
+                      for one in self.told):
+            self.told.append(self.hear())
+        self.told = []
         whole = self.ask("Runtime.evaluate", session, expression="document.documentElement.outerHTML")
         self.ask("Target.closeTarget", targetId=tab)
         return whole["result"]["value"]
