@@ -15,6 +15,7 @@ use Rattle.laws.proofs.Tests.{case}
 use Rattle.laws.proofs.Parts.{table-same}
 use Rattle.laws.proofs.Zeros.{sum-table}
 use Rattle.block.specs.Block.{blockSize, checkAt, checkOf, soundBlock, Bytes}
+use Rattle.block.proofs.Sealed.{check-by}
 use Rattle.block.proofs.Blocks.{sound-check}
 
 -- two tables that differ at one place alone
@@ -58,11 +59,10 @@ module _ (b : List ℕ) (long : length b ≡ blockSize) (bytes : Bytes b) (fine 
 
   -- the check itself is what the bytes before it say
   told-by-check : checkAt ≤ j → soundBlock changed ≡ true → ⊥
-  unfolding checkOf
   told-by-check h e =
       let (high, low) = sound-check changed e in
       let (was-high, was-low) = sound-check b fine in
-      let same : checkOf (at changed) ≡ checkOf (at b) = ap (λ l. sum l % 65536) (table-same checkAt (at changed) (at b) (λ i k. at-old i (λ z. omega arith))) in
+      let same : checkOf (at changed) ≡ checkOf (at b) = check-by (at changed) (at b) (λ i k. at-old i (λ z. omega arith)) in
       case (eqb j checkAt)
       (λ t. let z = eqb-true j checkAt t in new (sym at-new ∙ ap (at changed) z ∙ high ∙ ap (λ n. n / 256) same ∙ sym was-high ∙ ap (at b) (sym z)))
       (λ t. let d = eqb-false j checkAt t in let z : j ≡ suc checkAt = omega (arith, d) in

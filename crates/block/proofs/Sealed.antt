@@ -27,6 +27,12 @@ unfolding holds
 at-holds a zero f b same = refl
 at-holds a (suc n) f b same = and-both (at-holds a n f b (λ j h. same j (omega arith))) (eq-eqb (at b (a + n)) (f n) (same n (omega arith)))
 
+-- ---- the check goes by the 510 places before it
+
+pub check-by : (f g : ℕ → ℕ) → ((i : ℕ) → i < checkAt → f i ≡ g i) → checkOf f ≡ checkOf g
+unfolding checkOf
+check-by f g same = ap (λ l. sum l % 65536) (table-same checkAt f g same)
+
 -- ---- the end of a block goes by the places before 501 alone
 
 -- two blocks that have the same there
@@ -48,8 +54,7 @@ module _ (f g : ℕ → ℕ) (few : f countAt ≤ mostSamples) (same : (i : ℕ)
       (λ t. rw t (summary-same (i - roomEnd)))
 
   check-same : checkOf (first510 f) ≡ checkOf (first510 g)
-  unfolding checkOf
-  check-same = ap (λ l. sum l % 65536) (table-same checkAt (first510 f) (first510 g) (λ i h. front-same i))
+  check-same = check-by (first510 f) (first510 g) (λ i h. front-same i)
 
   pub sealed-same : (i : ℕ) → sealed f i ≡ sealed g i
   unfolding sealed
@@ -75,8 +80,7 @@ module _ (f : ℕ → ℕ) where
         (summary-same f (at (table blockSize (sealed f))) few (λ i l. sym (sealed-at i l)) j))
 
     sealed-check : checkOf (at (table blockSize (sealed f))) ≡ checkOf (first510 f)
-    unfolding checkOf
-    sealed-check = ap (λ l. sum l % 65536) (table-same checkAt (at (table blockSize (sealed f))) (first510 f) sealed-front)
+    sealed-check = check-by (at (table blockSize (sealed f))) (first510 f) sealed-front
 
     sealed-checked : checked (table blockSize (sealed f)) ≡ true
     unfolding sealed

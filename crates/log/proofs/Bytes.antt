@@ -30,6 +30,6 @@ pub add-bytes : (log : List ℕ) (used : ℕ) (x : List ℕ) → Bytes log → B
 add-bytes log used x l s was free =
     add-elim log used x (λ t n. Bytes t) free
     (λ t q. bytes-put log used (grown (newBlock log used) x) l
-    (bytes-grown (newBlock log used) x (bytes-fresh (suc (lastNumber log used))) s (rw (fresh-count (suc (lastNumber log used))) (omega arith))))
+    (bytes-grown (newBlock log used) x (bytes-fresh (suc (lastNumber log used))) s (rw (fresh-count _) (omega arith))))
     (λ n e t r. let h = was .fits in
     bytes-put log n (grown (block log n) x) l (bytes-grown (block log n) x (bytes-block log n l (omega arith)) s r))

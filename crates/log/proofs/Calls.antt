@@ -52,21 +52,21 @@ module _ (log : List ℕ) (used : ℕ) (bytes : Bytes log) (was : Fit log used) 
   -- the sound log stays sound, with one block more
   pub power-up-sound : Fit (afterPowerUp log used) (suc used)
   power-up-sound =
-      put-fit log used (was .whole) (left-over log used free .0) (was .good) (newBlock log used) (fresh-length (suc (lastNumber log used)))
-      (fresh-sound (suc (lastNumber log used))) (rw new-number (next-new log used))
+      put-fit log used (was .whole) (left-over log used free .0) (was .good) (newBlock log used) (fresh-length _)
+      (fresh-sound _) (rw new-number (next-new log used))
 
   -- "a power-up changes no sample"
   pub power-up-samples : samples (afterPowerUp log used) (suc used) ≡ samples log used
   power-up-samples =
-      put-samples log used (was .whole) (left-over log used free .0) (was .good) (newBlock log used) (fresh-length (suc (lastNumber log used)))
-      (fresh-sound (suc (lastNumber log used))) (rw new-number (next-new log used))
-      ∙ rw (fresh-samples (suc (lastNumber log used))) (append-nil (samples log used))
+      put-samples log used (was .whole) (left-over log used free .0) (was .good) (newBlock log used) (fresh-length _)
+      (fresh-sound _) (rw new-number (next-new log used))
+      ∙ rw (fresh-samples _) (append-nil (samples log used))
 
   -- numbers rise by one
   pub power-up-number : lastNumber (afterPowerUp log used) (suc used) ≡ suc (lastNumber log used)
   power-up-number =
       let room = left-over log used free .0 in
-      rw (put-here log used (newBlock log used) (fresh-length (suc (lastNumber log used))) (omega arith)) new-number
+      rw (put-here log used (newBlock log used) (fresh-length _) (omega arith)) new-number
 
 -- ---- an add
 
@@ -76,7 +76,7 @@ module _ (log : List ℕ) (used : ℕ) (x : List ℕ) (bytes : Bytes log) (was :
   first = grown (newBlock log used) x
 
   none : count (newBlock log used) < mostSamples
-  none = rw (fresh-count (suc (lastNumber log used))) (omega arith)
+  none = rw (fresh-count _) (omega arith)
 
   first-long : length first ≡ blockSize
   unfolding first
@@ -84,7 +84,7 @@ module _ (log : List ℕ) (used : ℕ) (x : List ℕ) (bytes : Bytes log) (was :
 
   first-fine : soundBlock first ≡ true
   unfolding first
-  first-fine = grown-sound (newBlock log used) x none long (fresh-sound (suc (lastNumber log used)))
+  first-fine = grown-sound (newBlock log used) x none long (fresh-sound _)
 
   first-number : number first ≡ suc (lastNumber log used)
   unfolding first
@@ -92,7 +92,7 @@ module _ (log : List ℕ) (used : ℕ) (x : List ℕ) (bytes : Bytes log) (was :
 
   first-samples : samplesIn first ≡ x ∷ []
   unfolding first
-  first-samples = grown-samples (newBlock log used) x none long (fresh-length (suc (lastNumber log used))) ∙ rw (fresh-samples (suc (lastNumber log used)))
+  first-samples = grown-samples (newBlock log used) x none long (fresh-length _) ∙ rw (fresh-samples _)
 
   new-fit : Fit (put log used first) (suc used)
   new-fit = put-fit log used (was .whole) (left-over log used free .0) (was .good) first first-long first-fine (rw first-number (next-new log used))
@@ -242,4 +242,4 @@ module _ (log : List ℕ) (used : ℕ) (taken : powerUpRefusal log used ≡ 0) w
 
   -- the sample that comes next goes into the new block
   pub power-up-takes : needsNew (afterPowerUp log used) (suc used) ≡ false
-  power-up-takes = rw (put-here log used (newBlock log used) (fresh-length (suc (lastNumber log used))) power-up-room, fresh-count (suc (lastNumber log used)))
+  power-up-takes = rw (put-here log used (newBlock log used) (fresh-length _) power-up-room, fresh-count _)

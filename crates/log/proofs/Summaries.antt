@@ -19,7 +19,7 @@ add-summary log used x taken =
     add-elim log used x (λ t n. hasSummary (block t (n - 1)) ≡ true) free
     (λ t l. let z : suc used - 1 ≡ used = omega arith in
     let h = left-over log used l .0 in
-    let few : count (newBlock log used) < mostSamples = rw (fresh-count (suc (lastNumber log used))) (omega arith) in
+    let few : count (newBlock log used) < mostSamples = rw (fresh-count _) (omega arith) in
     rw z (ap hasSummary (put-here log used (grown (newBlock log used) x) (grown-length (newBlock log used) x few long) (omega arith)) ∙ grown-summary (newBlock log used) x few long))
     (λ n e t r. let z : suc n - 1 ≡ n = omega arith in
     let h = was .fits in
@@ -27,4 +27,4 @@ add-summary log used x taken =
 
 pub power-up-summary : (log : List ℕ) (used : ℕ) → powerUpRefusal log used ≡ 0 → hasSummary (block (afterPowerUp log used) used) ≡ true
 power-up-summary log used taken =
-    ap hasSummary (put-here log used (newBlock log used) (fresh-length (suc (lastNumber log used))) (power-up-room log used taken)) ∙ fresh-summary (suc (lastNumber log used))
+    ap hasSummary (put-here log used (newBlock log used) (fresh-length _) (power-up-room log used taken)) ∙ fresh-summary _
