@@ -3,7 +3,7 @@ picture of it, and its printed form.
 
 It is told that no name has an address, and to send what it asks for to a port of this machine that nobody listens at, or to one
 where the test does. Pages that are read are opened in one browser, one after the other, each in a tab of its own, by its
-debugging protocol: to start one for each takes longer than all that is read.
+debugging protocol: to start one takes several times as long as to read a page.
 """
 import atexit
 import functools
