@@ -114,6 +114,11 @@ uint64_t both_answer(void)
     return library_answer;
 }
 
+const uint8_t *both_output(void)
+{
+    return library.out;
+}
+
 const uint8_t *both_state(void)
 {
     return expected;

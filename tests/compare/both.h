@@ -19,6 +19,9 @@ bool both_make(const struct call *call);
 uint64_t both_answer(void);
 void both_print_differences(FILE *to);
 
+/* Of the last read: the output memory that the library was lent. */
+const uint8_t *both_output(void);
+
 /* The state or the log that the plain engine has, as long as the one begun with. */
 const uint8_t *both_state(void);
 

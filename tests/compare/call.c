@@ -69,6 +69,15 @@ struct call a_put(uint64_t place, uint8_t byte)
     return (struct call){ .kind = PUT, .number = place, .fill = byte };
 }
 
+const char *call_name(enum kind kind)
+{
+    static const char *const names[KINDS] = {
+        "reset", "sample", "read", "write", "identity", "kind", "value", "limits", "limit", "log-add", "log-power-up", "log-sample",
+        "log-first", "put",
+    };
+    return names[kind];
+}
+
 bool call_is_double(enum kind kind)
 {
     return kind == VALUE || kind == LIMIT;

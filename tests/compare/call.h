@@ -45,6 +45,8 @@ struct call a_put(uint64_t place, uint8_t byte);
 bool call_is_double(enum kind kind);
 bool call_is_of_log(enum kind kind);
 
+const char *call_name(enum kind kind);
+
 /* A beginning and the calls made since it, with copies of all their bytes. */
 struct list {
     enum place place;

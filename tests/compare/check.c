@@ -17,7 +17,7 @@ struct options options;
 
 static struct list list;
 static enum place place = AT_END;
-static const char *group_name = "again";
+static const char *group_name = "follow";
 static jmp_buf group_end;
 static uint64_t calls;
 static char words[1024];

@@ -5,7 +5,6 @@
 #include "generate.h"
 #include "groups.h"
 #include "random.h"
-#include "text.h"
 
 #include <inttypes.h>
 #include <string.h>
@@ -58,8 +57,8 @@ static void report(uint64_t histories)
     int used = snprintf(line, sizeof line, " in %" PRIu64 " histories; accepted and refused:", histories);
     for (int kind = 0; kind < LOG_ADD; kind++) {
         if (!accepted[kind] || !refused[kind])
-            fail("%s was never %s", text_word((enum kind)kind), accepted[kind] ? "refused" : "accepted");
-        used += snprintf(line + used, sizeof line - (size_t)used, " %s %" PRIu64 " %" PRIu64 ",", text_word((enum kind)kind),
+            fail("%s was never %s", call_name((enum kind)kind), accepted[kind] ? "refused" : "accepted");
+        used += snprintf(line + used, sizeof line - (size_t)used, " %s %" PRIu64 " %" PRIu64 ",", call_name((enum kind)kind),
                          accepted[kind], refused[kind]);
     }
     used += snprintf(line + used, sizeof line - (size_t)used, " refusals 1 to 13:");

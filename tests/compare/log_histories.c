@@ -5,7 +5,6 @@
 #include "groups.h"
 #include "log_cases.h"
 #include "random.h"
-#include "text.h"
 
 #include <inttypes.h>
 #include <string.h>
@@ -124,8 +123,8 @@ static void report(uint64_t histories)
     int end = snprintf(line, sizeof line, " in %" PRIu64 " histories; accepted and refused:", histories);
     for (int kind = LOG_ADD; kind <= LOG_FIRST; kind++) {
         if (!accepted[kind] || !refused[kind])
-            fail("%s was never %s", text_word((enum kind)kind), accepted[kind] ? "refused" : "accepted");
-        end += snprintf(line + end, sizeof line - (size_t)end, " %s %" PRIu64 " %" PRIu64 ",", text_word((enum kind)kind),
+            fail("%s was never %s", call_name((enum kind)kind), accepted[kind] ? "refused" : "accepted");
+        end += snprintf(line + end, sizeof line - (size_t)end, " %s %" PRIu64 " %" PRIu64 ",", call_name((enum kind)kind),
                         accepted[kind], refused[kind]);
     }
     end += snprintf(line + end, sizeof line - (size_t)end, " refusals 8, 14, 15 and 17:");

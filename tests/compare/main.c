@@ -1,13 +1,13 @@
 /* compare: makes the same calls on the library and on the plain engine, and compares all that they answer and leave behind.
  *
  *   compare [--calls N] [--pairs N] [--seed N] [--first] [--only GROUP] IMAGE
- *   compare again FILE
+ *   compare follow IMAGE FILE
  *
  * IMAGE is a factory image, 640 two-digit hexadecimal numbers. --calls is for the module's random histories, and those of a log
- * make a part as many; --pairs is for the pairs of runs of demand 3; --first ends at the first group that fails. `again` reads
- * what is printed of a mismatch. */
-#include "again.h"
+ * make a part as many; --pairs is for the pairs of runs of demand 3; --first ends at the first group that fails. `follow` makes the
+ * calls of a script, as what is printed of a mismatch is one: see script.h and follow.h. */
 #include "check.h"
+#include "follow.h"
 #include "groups.h"
 
 #include <errno.h>
@@ -61,7 +61,7 @@ void group_odd(void)
 
 static _Noreturn void usage(void)
 {
-    fputs("usage: compare [--calls N] [--pairs N] [--seed N] [--first] [--only GROUP] IMAGE | again FILE\n", stderr);
+    fputs("usage: compare [--calls N] [--pairs N] [--seed N] [--first] [--only GROUP] IMAGE | follow IMAGE FILE\n", stderr);
     exit(2);
 }
 
@@ -108,9 +108,10 @@ int main(int count, char **words)
 {
     const char *image = NULL, *only = NULL;
     bool first = false;
-    if (count == 3 && !strcmp(words[1], "again")) {
+    if (count == 4 && !strcmp(words[1], "follow")) {
+        load_image(words[2]);
         check_prepare();
-        return again(words[2]);
+        return follow(words[3]);
     }
     options = (struct options){ .seed = SEED, .calls = 2000000, .pairs = 10000 };
     for (char **word = words + 1; *word; word++) {

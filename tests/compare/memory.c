@@ -6,6 +6,8 @@
 #include <string.h>
 #include <sys/mman.h>
 
+const char *const place_words[PLACES] = { "end", "start", "odd" };
+
 /* As much is unreadable as the largest page of a machine that emulates this one: its smallest protected part. */
 enum { UNREADABLE = 1 << 16, CANARY = 64 };
 

@@ -17,6 +17,7 @@ enum part { STATE, FIRST, SECOND, OUTPUT, PARTS };
 /* AT_END: unreadable memory comes right after it. AT_START: right before it. AT_ODD: neither, but it lies at an odd address, with
  * canary bytes on both sides. */
 enum place { AT_END, AT_START, AT_ODD, PLACES };
+extern const char *const place_words[PLACES];
 
 /* Maps all regions; ends the program with 2 where it can't. */
 void memory_prepare(void);
