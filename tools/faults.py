@@ -17,7 +17,7 @@ from pathlib import Path
 MOST_OF_FUNCTION = 3  # faults of one function
 LEAST_OF_CALL = 2     # wrong answers of each public call
 NOT_IN_C = ("identity_refusal", "identity_view", "sample_view")  # public calls of Rattle alone
-MOST_RUNS = 190       # of all crates: with them ./test takes under 30 minutes on two idle cores (docs/DECISIONS.md)
+MOST_RUNS = 150       # of all crates: with them ./test takes under 30 minutes on two idle cores (docs/DECISIONS.md)
 # Document 01's six faults (the last is two: when its condition ends, or when it is masked) and its four idle programs (the third
 # is two: samples, and writes).
 ALWAYS = {"model": (
