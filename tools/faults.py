@@ -20,10 +20,11 @@ NOT_IN_C = ("identity_refusal", "identity_view", "sample_view")  # public calls 
 MOST_RUNS = 150       # of all crates: with them ./test takes under 30 minutes on two idle cores (docs/DECISIONS.md)
 # Document 01's six faults (the last is two: when its condition ends, or when it is masked) and its four idle programs (the third
 # is two: samples, and writes).
-ALWAYS = {"model": (
-    "fault_clears_both", "fault_temperature_unsigned", "fault_pin_upside_down", "fault_zeros_out", "fault_status_clears",
-    "fault_dropped_when_over", "fault_dropped_when_masked", "idle_refuses_everything", "idle_reads_the_same",
-    "idle_samples_unused", "idle_writes_unused", "idle_first_sample_only")}
+ALWAYS = {
+    "ports": ("fault_clears_both", "fault_zeros_out", "idle_refuses_everything", "idle_writes_unused"),
+    "model": (
+        "fault_temperature_unsigned", "fault_pin_upside_down", "fault_status_clears", "fault_dropped_when_over",
+        "fault_dropped_when_masked", "idle_reads_the_same", "idle_samples_unused", "idle_first_sample_only")}
 
 Fault = namedtuple("Fault", "name accepted differs false file old new")
 Run = namedtuple("Run", "crate name faults wrong")  # wrong: what is wrong with it as it is written, or None

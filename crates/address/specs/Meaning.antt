@@ -20,7 +20,7 @@ seatOf Status = status
 seatOf Blank = blank
 
 abbrev pub means : Class → writing.Class
-means Nothing = writing.none
+means Nothing = writing.noBits
 means All = writing.all
 means LowFour = writing.lowFour
 means LowThree = writing.lowThree

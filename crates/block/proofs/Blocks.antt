@@ -16,7 +16,7 @@ use Rattle.laws.specs.Lists.{at, part}
 use Rattle.laws.proofs.Tests.{case, and-left, and-right, covers-in, covers-below, covers-above}
 use Rattle.laws.proofs.Lists.{table-length}
 use Rattle.laws.proofs.Parts.{part-same, is-part}
-use Rattle.block.specs.Block.{blockSize, sampleSize, number, numberBytes, countAt, count, mostSamples, slot, roomEnd, samplesTo, samplesIn, checkAt, checkOf, sealed, holds, summed, hasSummary, checked, ended, soundBlock, fresh, grown}
+use Rattle.block.specs.Block.{blockSize, sampleSize, number, numberBytes, countAt, count, mostSamples, slot, roomEnd, samplesTo, samplesIn, checkOf, sealed, holds, summed, hasSummary, checked, ended, soundBlock, fresh, grown, grownAt}
 use Rattle.block.proofs.Sealed.{holds-at, sealed-at, sealed-summary, sealed-sound}
 
 -- ---- what a sound block says of its places
@@ -44,11 +44,11 @@ sound-ended b e =
     (and-right (leb (count b) mostSamples) (holds (slot (count b)) (roomEnd - slot (count b)) (λ j. 0) b && ended b) e)
 
 -- its check is the sum of the bytes before it, as they stand
-pub sound-check : (b : List ℕ) → soundBlock b ≡ true → (at b checkAt ≡ checkOf (at b) / 256) × (at b (suc checkAt) ≡ checkOf (at b) % 256)
+pub sound-check : (b : List ℕ) → soundBlock b ≡ true → (at b 510 ≡ checkOf (at b) / 256) × (at b 511 ≡ checkOf (at b) % 256)
 sound-check b e =
     let c = and-right (summed b) (checked b) (sound-ended b e) in (
-      eqb-true (at b checkAt) (checkOf (at b) / 256) (and-left (eqb (at b checkAt) (checkOf (at b) / 256)) (eqb (at b (suc checkAt)) (checkOf (at b) % 256)) c),
-      eqb-true (at b (suc checkAt)) (checkOf (at b) % 256) (and-right (eqb (at b checkAt) (checkOf (at b) / 256)) (eqb (at b (suc checkAt)) (checkOf (at b) % 256)) c),
+      eqb-true (at b 510) (checkOf (at b) / 256) (and-left (eqb (at b 510) (checkOf (at b) / 256)) (eqb (at b 511) (checkOf (at b) % 256)) c),
+      eqb-true (at b 511) (checkOf (at b) % 256) (and-right (eqb (at b 510) (checkOf (at b) / 256)) (eqb (at b 511) (checkOf (at b) % 256)) c),
     )
 
 -- ---- block n with no samples
@@ -89,21 +89,18 @@ module _ (n : ℕ) where
 -- ---- block b with one sample more
 
 module _ (b x : List ℕ) (room : count b < mostSamples) (long : length x ≡ sampleSize) where
-  abbrev pub places : ℕ → ℕ
-  places i = if eqb i countAt then suc (count b) else (if covers (slot (count b)) sampleSize i then at x (i - slot (count b)) else at b i)
-
   pub grown-length : length (grown b x) ≡ blockSize
   unfolding grown
-  grown-length = table-length blockSize (sealed places)
+  grown-length = table-length blockSize (sealed (grownAt b x))
 
   pub grown-count : count (grown b x) ≡ suc (count b)
   unfolding grown
-  grown-count = sealed-at places countAt (omega arith)
+  grown-count = sealed-at (grownAt b x) countAt (omega arith)
 
   -- what stands elsewhere before byte 501 stays
   pub grown-else : (i : ℕ) → i < roomEnd → i ≢ countAt → covers (slot (count b)) sampleSize i ≡ false → at (grown b x) i ≡ at b i
   unfolding grown
-  grown-else i h d c = sealed-at places i h ∙ rw (ne-eqb i countAt d, c)
+  grown-else i h d c = sealed-at (grownAt b x) i h ∙ rw (ne-eqb i countAt d, c)
 
   pub grown-number : number (grown b x) ≡ number b
   grown-number =
@@ -128,10 +125,10 @@ module _ (b x : List ℕ) (room : count b < mostSamples) (long : length x ≡ sa
   newest : x ≡ part (slot (count b)) sampleSize (grown b x)
   unfolding grown
   newest =
-      let g = table-length blockSize (sealed places) in
+      let g = table-length blockSize (sealed (grownAt b x)) in
       is-part (slot (count b)) sampleSize (grown b x) (omega arith) x long
       (λ i h. let z : slot (count b) + i - slot (count b) ≡ i = omega arith in
-      sym (sealed-at places (slot (count b) + i) (omega arith)
+      sym (sealed-at (grownAt b x) (slot (count b) + i) (omega arith)
       ∙ rw (ne-eqb (slot (count b) + i) countAt (λ z. omega arith), covers-in (slot (count b)) sampleSize (slot (count b) + i) (omega arith) (omega arith), z)))
 
   pub grown-samples : length b ≡ blockSize → samplesIn (grown b x) ≡ samplesIn b ++ (x ∷ [])
@@ -141,7 +138,7 @@ module _ (b x : List ℕ) (room : count b < mostSamples) (long : length x ≡ sa
   pub grown-sound : soundBlock b ≡ true → soundBlock (grown b x) ≡ true
   unfolding grown
   grown-sound s =
-      sealed-sound places (omega arith)
+      sealed-sound (grownAt b x) (omega arith)
       (λ i h l. rw (ne-eqb i countAt (λ z. omega arith), covers-above (slot (count b)) sampleSize i (omega arith)) (sound-room b s i (omega arith) l))
 
 -- ---- its samples
@@ -169,4 +166,4 @@ fresh-summary n = sealed-summary (at (numberBytes n)) (omega arith)
 
 pub grown-summary : (b x : List ℕ) → count b < mostSamples → length x ≡ sampleSize → hasSummary (grown b x) ≡ true
 unfolding grown
-grown-summary b x room long = sealed-summary (places b x room long) (omega arith)
+grown-summary b x room long = sealed-summary (grownAt b x) (omega arith)

@@ -11,7 +11,7 @@ use Rattle.laws.specs.Tests.{if_then_else_, covers}
 use Rattle.laws.specs.Lists.{at, table}
 use Rattle.laws.proofs.Tests.{case, if-elim}
 use Rattle.laws.proofs.Lists.{table-length, table-at}
-use Rattle.block.specs.Block.{blockSize, sampleSize, countAt, count, mostSamples, slot, roomEnd, anyTo, summary, checkAt, checkOf, sealed, numberBytes, fresh, grown, Bytes}
+use Rattle.block.specs.Block.{blockSize, sampleSize, countAt, count, mostSamples, slot, roomEnd, anyTo, summary, checkOf, sealed, numberBytes, fresh, grown, Bytes, grownAt}
 
 pub bytes-table : (n : ℕ) (f : ℕ → ℕ) → ((i : ℕ) → i < n → f i < 256) → Bytes (table n f)
 bytes-table n f small i = case (ltb i n)
@@ -21,11 +21,11 @@ bytes-table n f small i = case (ltb i n)
 pub bytes-sealed : (f : ℕ → ℕ) → ((i : ℕ) → f i < 256) → Bytes (table blockSize (sealed f))
 unfolding sealed checkOf summary anyTo
 bytes-sealed f small = bytes-table blockSize (sealed f)
-    (λ i h. if-elim (λ n. n < 256) (ltb i checkAt)
+    (λ i h. if-elim (λ n. n < 256) (ltb i 510)
     (λ t. if-elim (λ n. n < 256) (ltb i roomEnd) (λ u. small i)
     (λ u. if-elim (λ n. n < 256) (ltb (i - roomEnd) 3) (λ v. any (i - roomEnd) (f countAt))
     (λ v. if-elim (λ n. n < 256) (eqb (i - roomEnd) 3) (λ w. omega arith) (λ w. omega arith))))
-    (λ t. if-elim (λ n. n < 256) (eqb i checkAt) (λ u. omega arith) (λ u. omega arith)))
+    (λ t. if-elim (λ n. n < 256) (eqb i 510) (λ u. omega arith) (λ u. omega arith)))
   where
     any : (j n : ℕ) → anyTo f j n < 256
     any j zero = omega arith
@@ -45,6 +45,6 @@ bytes-fresh n = bytes-sealed (at (numberBytes n)) (by n)
 pub bytes-grown : (b x : List ℕ) → Bytes b → Bytes x → count b < mostSamples → Bytes (grown b x)
 unfolding grown
 bytes-grown b x l s h =
-    bytes-sealed (λ i. if eqb i countAt then suc (count b) else (if covers (slot (count b)) sampleSize i then at x (i - slot (count b)) else at b i))
+    bytes-sealed (grownAt b x)
     (λ i. if-elim (λ n. n < 256) (eqb i countAt) (λ t. omega arith)
     (λ t. if-elim (λ n. n < 256) (covers (slot (count b)) sampleSize i) (λ u. s (i - slot (count b))) (λ u. l i)))

@@ -14,7 +14,7 @@ use Rattle.laws.specs.Lists.{at, table, sum}
 use Rattle.laws.proofs.Tests.{case}
 use Rattle.laws.proofs.Parts.{table-same}
 use Rattle.laws.proofs.Zeros.{sum-table}
-use Rattle.block.specs.Block.{blockSize, checkAt, checkOf, soundBlock, Bytes}
+use Rattle.block.specs.Block.{blockSize, checkOf, soundBlock, Bytes}
 use Rattle.block.proofs.Sealed.{check-by}
 use Rattle.block.proofs.Blocks.{sound-check}
 
@@ -45,31 +45,31 @@ module _ (b : List ℕ) (long : length b ≡ blockSize) (bytes : Bytes b) (fine 
   at-old i d = getD-set-other b j i v 0 d
 
   -- before byte 510 the sum tells it
-  told-by-sum : j < checkAt → soundBlock changed ≡ true → ⊥
+  told-by-sum : j < 510 → soundBlock changed ≡ true → ⊥
   unfolding checkOf
   told-by-sum h e =
       let (high, low) = sound-check changed e in
       let (was-high, was-low) = sound-check b fine in
-      let same-high = at-old checkAt (λ z. omega arith) in
-      let same-low = at-old (suc checkAt) (λ z. omega arith) in
-      let sums = sum-change checkAt (at b) (at changed) j h (λ i k d. at-old i d) in
+      let same-high = at-old 510 (λ z. omega arith) in
+      let same-low = at-old 511 (λ z. omega arith) in
+      let sums = sum-change 510 (at b) (at changed) j h (λ i k d. at-old i d) in
       let now = at-new in
       let small = bytes j in
       omega (arith, new)
 
   -- the check itself is what the bytes before it say
-  told-by-check : checkAt ≤ j → soundBlock changed ≡ true → ⊥
+  told-by-check : 510 ≤ j → soundBlock changed ≡ true → ⊥
   told-by-check h e =
       let (high, low) = sound-check changed e in
       let (was-high, was-low) = sound-check b fine in
       let same : checkOf (at changed) ≡ checkOf (at b) = check-by (at changed) (at b) (λ i k. at-old i (λ z. omega arith)) in
-      case (eqb j checkAt)
-      (λ t. let z = eqb-true j checkAt t in new (sym at-new ∙ ap (at changed) z ∙ high ∙ ap (λ n. n / 256) same ∙ sym was-high ∙ ap (at b) (sym z)))
-      (λ t. let d = eqb-false j checkAt t in let z : j ≡ suc checkAt = omega (arith, d) in
+      case (eqb j 510)
+      (λ t. let z = eqb-true j 510 t in new (sym at-new ∙ ap (at changed) z ∙ high ∙ ap (λ n. n / 256) same ∙ sym was-high ∙ ap (at b) (sym z)))
+      (λ t. let d = eqb-false j 510 t in let z : j ≡ suc 510 = omega (arith, d) in
       new (sym at-new ∙ ap (at changed) z ∙ low ∙ ap (λ n. n % 256) same ∙ sym was-low ∙ ap (at b) (sym z)))
 
   pub block-damaged : soundBlock (set b j v) ≡ false
   unfolding changed
   block-damaged = case (soundBlock (set b j v))
-      (λ t. absurd (case (ltb j checkAt) (λ q. told-by-sum (ltb-true j checkAt q) t) (λ q. told-by-check (ltb-false j checkAt q) t)))
+      (λ t. absurd (case (ltb j 510) (λ q. told-by-sum (ltb-true j 510 q) t) (λ q. told-by-check (ltb-false j 510 q) t)))
       (λ t. t)

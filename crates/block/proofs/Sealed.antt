@@ -11,7 +11,7 @@ use Rattle.laws.specs.Lists.{at, table, sum}
 use Rattle.laws.proofs.Tests.{case, and-left, and-right, and-both}
 use Rattle.laws.proofs.Lists.{table-at}
 use Rattle.laws.proofs.Parts.{table-same}
-use Rattle.block.specs.Block.{blockSize, countAt, count, mostSamples, slot, roomEnd, anyTo, summary, checkAt, first510, checkOf, sealed, holds, hasSummary, checked, ended, soundBlock}
+use Rattle.block.specs.Block.{blockSize, countAt, count, mostSamples, slot, roomEnd, anyTo, summary, first510, checkOf, sealed, holds, hasSummary, checked, ended, soundBlock}
 
 -- ---- places that hold what they should
 
@@ -29,9 +29,9 @@ at-holds a (suc n) f b same = and-both (at-holds a n f b (λ j h. same j (omega 
 
 -- ---- the check goes by the 510 places before it
 
-pub check-by : (f g : ℕ → ℕ) → ((i : ℕ) → i < checkAt → f i ≡ g i) → checkOf f ≡ checkOf g
+pub check-by : (f g : ℕ → ℕ) → ((i : ℕ) → i < 510 → f i ≡ g i) → checkOf f ≡ checkOf g
 unfolding checkOf
-check-by f g same = ap (λ l. sum l % 65536) (table-same checkAt f g same)
+check-by f g same = ap (λ l. sum l % 65536) (table-same 510 f g same)
 
 -- ---- the end of a block goes by the places before 501 alone
 
@@ -63,9 +63,9 @@ module _ (f g : ℕ → ℕ) (few : f countAt ≤ mostSamples) (same : (i : ℕ)
 -- ---- a sealed block
 
 module _ (f : ℕ → ℕ) where
-  sealed-front : (i : ℕ) → i < checkAt → at (table blockSize (sealed f)) i ≡ first510 f i
+  sealed-front : (i : ℕ) → i < 510 → at (table blockSize (sealed f)) i ≡ first510 f i
   unfolding sealed
-  sealed-front i h = table-at blockSize (sealed f) i (omega arith) ∙ rw (lt-ltb i checkAt h)
+  sealed-front i h = table-at blockSize (sealed f) i (omega arith) ∙ rw (lt-ltb i 510 h)
 
   pub sealed-at : (i : ℕ) → i < roomEnd → at (table blockSize (sealed f)) i ≡ f i
   sealed-at i h = sealed-front i (omega arith) ∙ rw (lt-ltb i roomEnd h)
@@ -85,8 +85,8 @@ module _ (f : ℕ → ℕ) where
     sealed-checked : checked (table blockSize (sealed f)) ≡ true
     unfolding sealed
     sealed-checked = let c = sealed-check in
-        and-both (eq-eqb _ _ (table-at blockSize (sealed f) checkAt (omega arith) ∙ ap (λ n. n / 256) (sym c)))
-        (eq-eqb _ _ (table-at blockSize (sealed f) (suc checkAt) (omega arith) ∙ ap (λ n. n % 256) (sym c)))
+        and-both (eq-eqb _ _ (table-at blockSize (sealed f) 510 (omega arith) ∙ ap (λ n. n / 256) (sym c)))
+        (eq-eqb _ _ (table-at blockSize (sealed f) 511 (omega arith) ∙ ap (λ n. n % 256) (sym c)))
 
     sealed-ends : ended (table blockSize (sealed f)) ≡ true
     sealed-ends = rw sealed-summary sealed-checked

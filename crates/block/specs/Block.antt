@@ -52,22 +52,15 @@ unfoldable pub anyTo : (ℕ → ℕ) → ℕ → ℕ → ℕ
 anyTo f j zero = 0
 anyTo f j (suc k) = bitOr (anyTo f j k) (f (slot k + j))
 
--- the mark of a summary
-abbrev pub markAt : ℕ
-markAt = 504
-
 -- "bytes 501 to 503 are the OR of the three status bytes over their samples and byte 504 is 1"; after them zeros
 unfoldable pub summary : (ℕ → ℕ) → ℕ → ℕ
 summary f j = if ltb j 3 then anyTo f j (f countAt) else (if eqb j 3 then 1 else 0)
 
 -- ---- its check, bytes 510 and 511
 
-abbrev pub checkAt : ℕ
-checkAt = 510
-
 -- "the sum of the first 510 bytes, low sixteen bits"
 unfoldable pub checkOf : (ℕ → ℕ) → ℕ
-checkOf f = sum (table checkAt f) % 65536
+checkOf f = sum (table 510 f) % 65536
 
 -- ---- its end, bytes 501 to 511
 
@@ -78,8 +71,8 @@ first510 f i = if ltb i roomEnd then f i else summary f (i - roomEnd)
 -- all its places: "510 and 511 the sum .., high byte first"
 unfoldable pub sealed : (ℕ → ℕ) → ℕ → ℕ
 sealed f i =
-    if ltb i checkAt then first510 f i
-    else (if eqb i checkAt then checkOf (first510 f) / 256 else checkOf (first510 f) % 256)
+    if ltb i 510 then first510 f i
+    else (if eqb i 510 then checkOf (first510 f) / 256 else checkOf (first510 f) % 256)
 
 -- the n places from a on hold f 0 to f (n - 1)
 unfoldable pub holds : ℕ → ℕ → (ℕ → ℕ) → List ℕ → Bool
@@ -94,7 +87,7 @@ abbrev pub summed : List ℕ → Bool
 summed b = hasSummary b || holds roomEnd 9 (λ j. 0) b
 
 abbrev pub checked : List ℕ → Bool
-checked b = eqb (at b checkAt) (checkOf (at b) / 256) && eqb (at b (suc checkAt)) (checkOf (at b) % 256)
+checked b = eqb (at b 510) (checkOf (at b) / 256) && eqb (at b 511) (checkOf (at b) % 256)
 
 -- bytes 501 to 511 are as they must be
 abbrev pub ended : List ℕ → Bool
@@ -113,10 +106,12 @@ soundBlock b =
 unfoldable pub fresh : ℕ → List ℕ
 fresh n = table blockSize (sealed (at (numberBytes n)))
 
--- block b with one sample more
+-- block b with one sample more, x: its places before its end
+abbrev pub grownAt : List ℕ → List ℕ → ℕ → ℕ
+grownAt b x i = if eqb i countAt then suc (count b) else (if covers (slot (count b)) sampleSize i then at x (i - slot (count b)) else at b i)
+
 unfoldable pub grown : List ℕ → List ℕ → List ℕ
-grown b x =
-    table blockSize (sealed (λ i. if eqb i countAt then suc (count b) else (if covers (slot (count b)) sampleSize i then at x (i - slot (count b)) else at b i)))
+grown b x = table blockSize (sealed (grownAt b x))
 
 -- ---- memory of bytes
 

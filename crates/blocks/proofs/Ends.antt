@@ -17,7 +17,7 @@ use Rattle.laws.proofs.Tests.{case, and-both, covers-in, covers-below}
 use Rattle.laws.proofs.Lists.{is-table, patch-length, patch-at, patch-in, patch-else, is-patch, patch-same, at-set}
 use Rattle.laws.proofs.Parts.{table-same, table-front}
 use Rattle.laws.proofs.Zeros.{sum-table}
-use Rattle.block.specs.Block.{blockSize, count, slot, roomEnd, anyTo, summary, checkAt, first510, checkOf, sealed, holds, hasSummary, summed, checked}
+use Rattle.block.specs.Block.{blockSize, count, slot, roomEnd, anyTo, summary, first510, checkOf, sealed, holds, hasSummary, summed, checked}
 use Rattle.block.proofs.Sealed.{holds-at}
 
 -- ---- the end of a block
@@ -68,15 +68,15 @@ module _ (b : List ℕ) where
       rw (p, q, r, parts)
 
 -- the sum of a whole block is the sum of its first 510 bytes and the two of the check
-sum-all : (b : List ℕ) → length b ≡ blockSize → sum (part 0 blockSize b) ≡ sum (table checkAt (at b)) + at b checkAt + at b (suc checkAt)
+sum-all : (b : List ℕ) → length b ≡ blockSize → sum (part 0 blockSize b) ≡ sum (table 510 (at b)) + at b 510 + at b 511
 sum-all b long =
     ap sum (sym (table-front blockSize b (omega arith)))
-    ∙ sum-table (suc checkAt) (at b) ∙ ap (λ n. n + at b (suc checkAt)) (sum-table checkAt (at b))
+    ∙ sum-table 511 (at b) ∙ ap (λ n. n + at b 511) (sum-table 510 (at b))
 
-pub checked-is : (b : List ℕ) → length b ≡ blockSize → at b checkAt < 256 → at b (suc checkAt) < 256
-    → eqb (sum (part 0 blockSize b) % 65536) ((256 * at b checkAt + at b (suc checkAt) + (at b checkAt + at b (suc checkAt))) % 65536) ≡ checked b
+pub checked-is : (b : List ℕ) → length b ≡ blockSize → at b 510 < 256 → at b 511 < 256
+    → eqb (sum (part 0 blockSize b) % 65536) ((256 * at b 510 + at b 511 + (at b 510 + at b 511)) % 65536) ≡ checked b
 unfolding checkOf
-checked-is b long h l = rw (sum-all b long) (by (sum (table checkAt (at b))) (at b checkAt) (at b (suc checkAt)) h l)
+checked-is b long h l = rw (sum-all b long) (by (sum (table 510 (at b))) (at b 510) (at b 511) h l)
   where
     back : (s h l : ℕ) → s % 65536 ≡ 256 * h + l → (s + h + l) % 65536 ≡ (256 * h + l + (h + l)) % 65536
     back s h l e = omega arith
@@ -134,34 +134,34 @@ module _ (b : List ℕ) (long : length b ≡ blockSize) where
           rw (le-ltb n 3 (omega arith), ne-eqb n 3 (λ z. omega arith), ne-eqb n 2 (λ z. omega arith), ne-eqb n 1 (λ z. omega arith), ne-eqb n 0 (λ z. omega arith))
 
   -- the places before 510 once the summary is there, and the sum of all
-  put-front : (i : ℕ) → i < checkAt → at (patch roomEnd 11 (summary (at b)) b) i ≡ first510 (at b) i
+  put-front : (i : ℕ) → i < 510 → at (patch roomEnd 11 (summary (at b)) b) i ≡ first510 (at b) i
   put-front i h = patch-at roomEnd 11 (summary (at b)) b i (omega arith) ∙ case (ltb i roomEnd)
       (λ q. rw (q, covers-below roomEnd 11 i (ltb-true i roomEnd q)))
       (λ q. rw (q, covers-in roomEnd 11 i (ltb-false i roomEnd q) (omega arith)))
 
-  put-sum : sum (part 0 blockSize (patch roomEnd 11 (summary (at b)) b)) ≡ sum (table checkAt (first510 (at b)))
+  put-sum : sum (part 0 blockSize (patch roomEnd 11 (summary (at b)) b)) ≡ sum (table 510 (first510 (at b)))
   unfolding summary
   put-sum =
       let p : List ℕ = patch roomEnd 11 (summary (at b)) b in
       let l : length p ≡ blockSize = patch-length roomEnd 11 (summary (at b)) b ∙ long in
-      let high : at p checkAt ≡ 0 = patch-in roomEnd 11 (summary (at b)) b 9 (omega arith) (omega arith) in
-      let low : at p (suc checkAt) ≡ 0 = patch-in roomEnd 11 (summary (at b)) b 10 (omega arith) (omega arith) in
-      let front : sum (table checkAt (at p)) ≡ sum (table checkAt (first510 (at b))) = ap sum (table-same checkAt (at p) (first510 (at b)) put-front) in
+      let high : at p 510 ≡ 0 = patch-in roomEnd 11 (summary (at b)) b 9 (omega arith) (omega arith) in
+      let low : at p 511 ≡ 0 = patch-in roomEnd 11 (summary (at b)) b 10 (omega arith) (omega arith) in
+      let front : sum (table 510 (at p)) ≡ sum (table 510 (first510 (at b))) = ap sum (table-same 510 (at p) (first510 (at b)) put-front) in
       sum-all p l ∙ omega arith
 
   -- and the two bytes of the check
   pub seal-done : (c : ℕ) → c ≡ sum (part 0 blockSize (patch roomEnd 11 (summary (at b)) b)) % 65536
-      → set (set (patch roomEnd 11 (summary (at b)) b) checkAt (c / 256)) 511 (c % 256) ≡ table blockSize (sealed (at b))
+      → set (set (patch roomEnd 11 (summary (at b)) b) 510 (c / 256)) 511 (c % 256) ≡ table blockSize (sealed (at b))
   unfolding sealed checkOf
   seal-done c e =
-      let k : sum (table checkAt (first510 (at b))) % 65536 ≡ c = ap (λ n. n % 65536) (sym put-sum) ∙ sym e in
+      let k : sum (table 510 (first510 (at b))) % 65536 ≡ c = ap (λ n. n % 65536) (sym put-sum) ∙ sym e in
       let p : List ℕ = patch roomEnd 11 (summary (at b)) b in
       let l : length p ≡ blockSize = patch-length roomEnd 11 (summary (at b)) b ∙ long in
-      let m : length (set p checkAt (c / 256)) ≡ blockSize = length-set p checkAt (c / 256) ∙ l in
-      is-table (set (set p checkAt (c / 256)) 511 (c % 256)) blockSize (sealed (at b)) (length-set (set p checkAt (c / 256)) 511 (c % 256) ∙ m)
-      (λ i h. at-set (set p checkAt (c / 256)) 511 (c % 256) i (omega arith) ∙ case (ltb i checkAt)
-      (λ t. let u = ltb-true i checkAt t in
-      rw (ne-eqb i 511 (λ z. omega arith), t) (at-set p checkAt (c / 256) i (omega arith) ∙ rw (ne-eqb i checkAt (λ z. omega arith)) (put-front i u)))
-      (λ t. let u = ltb-false i checkAt t in case (eqb i checkAt)
-      (λ q. let z = eqb-true i checkAt q in rw (t, q, k, ne-eqb i 511 (λ w. omega arith)) (at-set p checkAt (c / 256) i (omega arith) ∙ rw q))
-      (λ q. let d = eqb-false i checkAt q in let z : i ≡ 511 = omega (arith, d) in rw (t, q, k, eq-eqb i 511 z))))
+      let m : length (set p 510 (c / 256)) ≡ blockSize = length-set p 510 (c / 256) ∙ l in
+      is-table (set (set p 510 (c / 256)) 511 (c % 256)) blockSize (sealed (at b)) (length-set (set p 510 (c / 256)) 511 (c % 256) ∙ m)
+      (λ i h. at-set (set p 510 (c / 256)) 511 (c % 256) i (omega arith) ∙ case (ltb i 510)
+      (λ t. let u = ltb-true i 510 t in
+      rw (ne-eqb i 511 (λ z. omega arith), t) (at-set p 510 (c / 256) i (omega arith) ∙ rw (ne-eqb i 510 (λ z. omega arith)) (put-front i u)))
+      (λ t. let u = ltb-false i 510 t in case (eqb i 510)
+      (λ q. let z = eqb-true i 510 q in rw (t, q, k, ne-eqb i 511 (λ w. omega arith)) (at-set p 510 (c / 256) i (omega arith) ∙ rw q))
+      (λ q. let d = eqb-false i 510 q in let z : i ≡ 511 = omega (arith, d) in rw (t, q, k, eq-eqb i 511 z))))

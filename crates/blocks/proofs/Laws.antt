@@ -14,7 +14,7 @@ use Rattle.laws.proofs.Tests.{case, covers-in, covers-above}
 use Rattle.laws.proofs.Lists.{patch-length, patch-at, at-set}
 use Rattle.laws.proofs.Fronts.{front-in, is-front}
 use Rattle.laws.proofs.Parts.{table-same}
-use Rattle.block.specs.Block.{blockSize, sampleSize, count, mostSamples, slot, numberBytes, countAt, roomEnd, sealed, holds, summed, checked, soundBlock, fresh, grown}
+use Rattle.block.specs.Block.{blockSize, sampleSize, count, mostSamples, slot, numberBytes, countAt, roomEnd, sealed, holds, summed, checked, soundBlock, fresh, grown, grownAt}
 use Rattle.block.proofs.Sealed.{sealed-same}
 use Rattle.block.proofs.Blocks.{number-past}
 
@@ -70,15 +70,12 @@ module _ (b : List ℕ) (long : length b ≡ blockSize) where
   pub grow-done : (x : List ℕ) → count b < mostSamples
       → table blockSize (sealed (at (set (patch (slot (count b)) sampleSize (λ j. at x (0 + j)) b) countAt (count b + 1)))) ≡ grown b x
   unfolding grown
-  grow-done x room = resealed (set p countAt (count b + 1)) places (omega arith) same
+  grow-done x room = resealed (set p countAt (count b + 1)) (grownAt b x) (omega arith) same
     where
       p : List ℕ
       p = patch (slot (count b)) sampleSize (λ j. at x (0 + j)) b
 
-      places : ℕ → ℕ
-      places i = if eqb i countAt then suc (count b) else (if covers (slot (count b)) sampleSize i then at x (i - slot (count b)) else at b i)
-
-      same : (i : ℕ) → i < roomEnd → at (set p countAt (count b + 1)) i ≡ places i
+      same : (i : ℕ) → i < roomEnd → at (set p countAt (count b + 1)) i ≡ grownAt b x i
       same i h =
           let l : length p ≡ blockSize = patch-length (slot (count b)) sampleSize (λ j. at x (0 + j)) b ∙ long in
           let z : count b + 1 ≡ suc (count b) = omega arith in

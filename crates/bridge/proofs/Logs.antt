@@ -3,50 +3,47 @@
 use mathlib.Core.Path.{_≡_, refl, sym, _∙_}
 use mathlib.Core.Logic.{_≢_, _↔_}
 use mathlib.Core.List.{List}
-use mathlib.Core.Option.{none, some}
+use mathlib.Core.Option.{none, some, Option}
 use Prim.Native.Nat.{ℕ, suc, _<_}
 use native.Mathlib.Omega.{arith}
 use lib.Dec.{eqb}
 use lib.ListN.{length}
+use Rattle.laws.specs.Tests.{Row, firstOf}
 use Rattle.laws.proofs.Tests.{case}
-use Rattle.log.specs.Contracts.{addRefusal, powerUpRefusal, sampleRefusal}
-use Rattle.question.specs.Search.{Answer, refused, given, firstRefusal, firstTold}
+use Rattle.log.specs.Contracts.{sampleRefusal, Changed}
+use Rattle.question.specs.Search.{Told, refused, given, firstTold, firstRows}
 use Rattle.question.proofs.Told.{first-short, first-refused-by}
-use Rattle.log.proofs.Contracts.{added-unique, opened-unique, placed-unique, add-refused, power-up-refused, sample-refused}
-use Rattle.packing.specs.Packing.{bits0}
-use Rattle.bridge.specs.Face.{value, AddPacked, OpenPacked, SamplePacked, FirstPacked, refusalOfFirst, valueOfFirst}
+use Rattle.log.proofs.Contracts.{changed-unique, placed-unique, changed-refused, sample-refused}
+use Rattle.packing.specs.Packing.{byteOf, refusalIn}
+use Rattle.bridge.specs.Face.{upper, SamplePacked, FirstPacked, valueOfFirst}
 
 -- ---- the refusal and the value beside it are the whole answer
 
-told-unique : (x y : ℕ) → bits0 x ≡ bits0 y → value x ≡ value y → x ≡ y
+told-unique : (x y : ℕ) → byteOf 0 x ≡ byteOf 0 y → upper x ≡ upper y → x ≡ y
 told-unique x y a b = omega arith
 
-pub add-packed-unique : {log : List ℕ} {used : ℕ} {s : List ℕ} {x y : ℕ} {t u : List ℕ} → AddPacked log used s x t → AddPacked log used s y u → (x ≡ y) × (t ≡ u)
-add-packed-unique {x = x} {y = y} p q = let e = added-unique p q in (told-unique x y (e .0) (e .1), e .2)
-
-pub open-packed-unique : {log : List ℕ} {used x y : ℕ} {t u : List ℕ} → OpenPacked log used x t → OpenPacked log used y u → (x ≡ y) × (t ≡ u)
-open-packed-unique {x = x} {y = y} p q = let e = opened-unique p q in (told-unique x y (e .0) (e .1), e .2)
+-- of an add and of a power-up
+pub changed-packed-unique : {log : List ℕ} {rows : List Row} {more : ℕ} {changed : List ℕ} {x y : ℕ} {t u : List ℕ}
+    → Changed log rows more changed (byteOf 0 x) (upper x) t → Changed log rows more changed (byteOf 0 y) (upper y) u → (x ≡ y) × (t ≡ u)
+changed-packed-unique {x = x} {y = y} p q = let e = changed-unique p q in (told-unique x y (e .0) (e .1), e .2)
 
 pub sample-packed-unique : {log : List ℕ} {used k x y : ℕ} → SamplePacked log used k x → SamplePacked log used k y → x ≡ y
 sample-packed-unique {x = x} {y = y} p q = let e = placed-unique p q in told-unique x y (e .0) (e .1)
 
 -- ---- a refused call changes no byte and answers its refusal's number alone
-told-alone : (x : ℕ) → value x ≡ 0 → x ≡ bits0 x
+told-alone : (x : ℕ) → upper x ≡ 0 → x ≡ byteOf 0 x
 told-alone x e = omega arith
 
-pub add-packed-refused : {log : List ℕ} {used : ℕ} {s : List ℕ} {x : ℕ} {t : List ℕ} → AddPacked log used s x t → bits0 x ≢ 0 → (x ≡ addRefusal log used s) × (t ≡ log)
-add-packed-refused {log} {used} {s} {x} p r =
-    let e = added-unique p (add-refused log used s (bits0 x) (p .refusal-is) r) in
+-- of an add and of a power-up
+pub changed-packed-refused : {log : List ℕ} {rows : List Row} {more : ℕ} {changed : List ℕ} {x : ℕ} {t : List ℕ}
+    → Changed log rows more changed (byteOf 0 x) (upper x) t → byteOf 0 x ≢ 0 → (x ≡ firstOf rows) × (t ≡ log)
+changed-packed-refused {log} {rows} {more} {changed} {x} p r =
+    let e = changed-unique p (changed-refused log rows more changed (byteOf 0 x) (p .refusal-is) r) in
     (told-alone x (e .1) ∙ p .refusal-is, e .2)
 
-pub open-packed-refused : {log : List ℕ} {used x : ℕ} {t : List ℕ} → OpenPacked log used x t → bits0 x ≢ 0 → (x ≡ powerUpRefusal log used) × (t ≡ log)
-open-packed-refused {log} {used} {x} p r =
-    let e = opened-unique p (power-up-refused log used (bits0 x) (p .refusal-is) r) in
-    (told-alone x (e .1) ∙ p .refusal-is, e .2)
-
-pub sample-packed-refused : {log : List ℕ} {used k x : ℕ} → SamplePacked log used k x → bits0 x ≢ 0 → x ≡ sampleRefusal log used k
+pub sample-packed-refused : {log : List ℕ} {used k x : ℕ} → SamplePacked log used k x → byteOf 0 x ≢ 0 → x ≡ sampleRefusal log used k
 sample-packed-refused {log} {used} {k} {x} p r =
-    let e = placed-unique p (sample-refused log used k (bits0 x) (p .refusal-is) r) in
+    let e = placed-unique p (sample-refused log used k (byteOf 0 x) (p .refusal-is) r) in
     told-alone x (e .1) ∙ p .refusal-is
 
 -- ---- the first sample with a status bit
@@ -55,7 +52,7 @@ pub first-packed-unique : {log : List ℕ} {used k x y : ℕ} → FirstPacked lo
 first-packed-unique {x = x} {y = y} p q = told-unique x y (p .refusal-is ∙ sym (q .refusal-is)) (p .value-is ∙ sym (q .value-is))
 
 -- of memory below 2 to the 61st bytes, more than a machine can address, no position is cut
-pub first-whole : {log : List ℕ} {used k x i : ℕ} → FirstPacked log used k x → length log < 2305843009213693952 → firstTold log used k ≡ given (some i) → (bits0 x ≡ 0) × (value x ≡ suc i)
+pub first-whole : {log : List ℕ} {used k x i : ℕ} → FirstPacked log used k x → length log < 2305843009213693952 → firstTold log used k ≡ given (some i) → (byteOf 0 x ≡ 0) × (upper x ≡ suc i)
 first-whole {log} {used} {k} {x} {i} p h e =
     let l = first-short log used k i e in
     (p .refusal-is ∙ rw e, p .value-is ∙ rw e (omega arith))
@@ -67,12 +64,12 @@ first-packed-none {log} {used} {k} {x} p h = (
   (λ e. told-alone x (p .value-is ∙ rw e) ∙ p .refusal-is ∙ rw e),
 )
   where
-    by : (a : Answer) → firstTold log used k ≡ a → refusalOfFirst a ≡ 0 → valueOfFirst a ≡ 0 → a ≡ given none
+    by : (a : Told (Option ℕ)) → firstTold log used k ≡ a → refusalIn a ≡ 0 → valueOfFirst a ≡ 0 → a ≡ given none
     by (refused n) e z v = absurd (first-refused-by log used k e z)
     by (given none) e z v = refl
     by (given (some i)) e z v = let l = first-short log used k i e in absurd (omega arith)
 
-pub first-packed-refused : {log : List ℕ} {used k x : ℕ} → FirstPacked log used k x → bits0 x ≢ 0 → x ≡ firstRefusal log used k
-first-packed-refused {log} {used} {k} {x} p r = case (eqb (firstRefusal log used k) 0)
+pub first-packed-refused : {log : List ℕ} {used k x : ℕ} → FirstPacked log used k x → byteOf 0 x ≢ 0 → x ≡ firstOf (firstRows log used k)
+first-packed-refused {log} {used} {k} {x} p r = case (eqb (firstOf (firstRows log used k)) 0)
     (λ t. absurd (r (p .refusal-is ∙ rw t)))
     (λ t. told-alone x (p .value-is ∙ rw t) ∙ p .refusal-is ∙ rw t)

@@ -3,84 +3,69 @@
 use mathlib.Core.Path.{_≡_, sym, _∙_}
 use mathlib.Core.Logic.{_≢_}
 use mathlib.Core.List.{List}
-use Prim.Native.Nat.{ℕ, _+_, _*_, _/_, _%_, _<_}
-use native.Mathlib.Nat.{div-div-eq-div-mul}
+use Prim.Native.Nat.{ℕ, _+_, _*_}
 use native.Mathlib.Omega.{arith}
 use Rattle.model.specs.Ports.{Call, read, write}
 use Rattle.model.specs.Bytes.{refusalOf}
 use Rattle.model.proofs.Contracts.{reported-refused, read-refused, write-refused, reported-unique, read-unique, write-unique}
-use Rattle.packing.specs.Packing.{bits0, bits8, bits16, bits24}
-use Rattle.bridge.specs.Face.{ReportPacked, ReadPacked, WritePacked, PlacePacked, KindPacked}
-
--- a number that C holds in an uint32_t
-abbrev pub Fits : ℕ → Type 0
-Fits x = x < 4294967296
+use Rattle.packing.specs.Packing.{byteOf}
+use Rattle.bridge.specs.Face.{Word32, ReportPacked, ReadPacked, WritePacked, PlacePacked, KindPacked}
 
 -- it is its four bytes
-low : (x : ℕ) → x ≡ x % 256 + 256 * (x / 256)
-low x = omega arith
+bytes-are : (x : ℕ) → Word32 x → x ≡ byteOf 0 x + 256 * byteOf 1 x + 65536 * byteOf 2 x + 16777216 * byteOf 3 x
+bytes-are x h = omega arith
 
-joined : {x p q : ℕ} (a b c r : ℕ) → x ≡ a + 256 * p → p ≡ b + 256 * q → q ≡ c + 256 * r → x ≡ a + 256 * b + 65536 * c + 16777216 * r
-joined a b c r d e f = omega arith
-
-bytes-are : (x : ℕ) → Fits x → x ≡ bits0 x + 256 * bits8 x + 65536 * bits16 x + 16777216 * bits24 x
-bytes-are x h =
-    let second : x / 256 / 256 ≡ x / 65536 = div-div-eq-div-mul x 256 256 in
-    let third : x / 65536 / 256 ≡ x / 16777216 = div-div-eq-div-mul x 65536 256 in
-    let fourth : bits24 x ≡ x / 16777216 = omega arith in
-    rw fourth (joined (bits0 x) (bits8 x) (bits16 x) (x / 16777216) (low x) (rw second at (low (x / 256))) (rw third at (low (x / 65536))))
-
-bytes-unique : (x y : ℕ) → Fits x → Fits y → bits0 x ≡ bits0 y → bits8 x ≡ bits8 y → bits16 x ≡ bits16 y → bits24 x ≡ bits24 y → x ≡ y
+bytes-unique : (x y : ℕ) → Word32 x → Word32 y → byteOf 0 x ≡ byteOf 0 y → byteOf 1 x ≡ byteOf 1 y → byteOf 2 x ≡ byteOf 2 y → byteOf 3 x ≡ byteOf 3 y → x ≡ y
 bytes-unique x y h k a b c d = bytes-are x h ∙ rw (a, b, c, d) (sym (bytes-are y k))
 
-bytes-alone : (x : ℕ) → Fits x → bits8 x ≡ 0 → bits16 x ≡ 0 → bits24 x ≡ 0 → x ≡ bits0 x
+bytes-alone : (x : ℕ) → Word32 x → byteOf 1 x ≡ 0 → byteOf 2 x ≡ 0 → byteOf 3 x ≡ 0 → x ≡ byteOf 0 x
 bytes-alone x h b c d = bytes-are x h ∙ rw (b, c, d) (omega arith)
 
 -- ---- any two outcomes are equal
 
-pub report-packed-unique : {s : List ℕ} {c : Call} {x y : ℕ} {t u : List ℕ} → Fits x → Fits y → ReportPacked s c x t → ReportPacked s c y u → (x ≡ y) × (t ≡ u)
+pub report-packed-unique : {s : List ℕ} {c : Call} {x y : ℕ} {t u : List ℕ} → Word32 x → Word32 y → ReportPacked s c x t → ReportPacked s c y u → (x ≡ y) × (t ≡ u)
 report-packed-unique {x = x} {y = y} h k p q =
     let e = reported-unique (p .report-is) (q .report-is) in
     (bytes-unique x y h k (e .0) (e .1) (e .2) (p .rest-is ∙ sym (q .rest-is)), e .3)
 
-pub read-packed-unique : {s : List ℕ} {n a k : ℕ} {out : List ℕ} {x y : ℕ} {t u o r : List ℕ} → Fits x → Fits y
+pub read-packed-unique : {s : List ℕ} {n a k : ℕ} {out : List ℕ} {x y : ℕ} {t u o r : List ℕ} → Word32 x → Word32 y
     → ReadPacked s n a k out x t o → ReadPacked s n a k out y u r → (x ≡ y) × (t ≡ u) × (o ≡ r)
 read-packed-unique {x = x} {y = y} h k p q =
     let e = read-unique (p .read-is) (q .read-is) in
     (bytes-unique x y h k (e .0) (e .1) (p .rest-is .0 ∙ sym (q .rest-is .0)) (p .rest-is .1 ∙ sym (q .rest-is .1)), e .2, e .3)
 
-pub write-packed-unique : {s : List ℕ} {n a : ℕ} {vs : List ℕ} {x y : ℕ} {t u : List ℕ} → Fits x → Fits y
+pub write-packed-unique : {s : List ℕ} {n a : ℕ} {vs : List ℕ} {x y : ℕ} {t u : List ℕ} → Word32 x → Word32 y
     → WritePacked s n a vs x t → WritePacked s n a vs y u → (x ≡ y) × (t ≡ u)
 write-packed-unique {x = x} {y = y} h k p q =
     let e = write-unique (p .write-is) (q .write-is) in
     (bytes-unique x y h k (e .0) (e .1) (p .rest-is .0 ∙ sym (q .rest-is .0)) (p .rest-is .1 ∙ sym (q .rest-is .1)), e .2)
 
-pub place-packed-unique : {live factory : List ℕ} {f x y : ℕ} → Fits x → Fits y → PlacePacked live factory f x → PlacePacked live factory f y → x ≡ y
+pub place-packed-unique : {live factory : List ℕ} {f x y : ℕ} → Word32 x → Word32 y → PlacePacked live factory f x → PlacePacked live factory f y → x ≡ y
 place-packed-unique {x = x} {y = y} h k p q =
     bytes-unique x y h k (p .refusal-is ∙ sym (q .refusal-is)) (p .page-is ∙ sym (q .page-is)) (p .start-is ∙ sym (q .start-is)) (p .length-is ∙ sym (q .length-is))
 
-pub kind-packed-unique : {s : List ℕ} {n x y : ℕ} → Fits x → Fits y → KindPacked s n x → KindPacked s n y → x ≡ y
+pub kind-packed-unique : {s : List ℕ} {n x y : ℕ} → Word32 x → Word32 y → KindPacked s n x → KindPacked s n y → x ≡ y
 kind-packed-unique {x = x} {y = y} h k p q =
     bytes-unique x y h k (p .refusal-is ∙ sym (q .refusal-is)) (p .kind-is ∙ sym (q .kind-is)) (p .rest-is .0 ∙ sym (q .rest-is .0)) (p .rest-is .1 ∙ sym (q .rest-is .1))
 
 -- ---- a refused call changes nothing and answers its refusal's number, with nothing packed beside it
 
-pub report-packed-refused : {s : List ℕ} {c : Call} {x : ℕ} {t : List ℕ} → Fits x → ReportPacked s c x t → bits0 x ≢ 0 → (x ≡ refusalOf s c) × (t ≡ s)
+pub report-packed-refused : {s : List ℕ} {c : Call} {x : ℕ} {t : List ℕ} → Word32 x → ReportPacked s c x t → byteOf 0 x ≢ 0 → (x ≡ refusalOf s c) × (t ≡ s)
 report-packed-refused {s} {c} {x} h p r =
     let n = p .report-is .refusal-is in
-    let e = reported-unique (p .report-is) (reported-refused s c (bits0 x) n r) in
+    let e = reported-unique (p .report-is) (reported-refused s c (byteOf 0 x) n r) in
     (bytes-alone x h (e .1) (e .2) (p .rest-is) ∙ n, e .3)
 
-pub read-packed-refused : {s : List ℕ} {n a k : ℕ} {out : List ℕ} {x : ℕ} {t o : List ℕ} → Fits x → ReadPacked s n a k out x t o → bits0 x ≢ 0
+pub read-packed-refused : {s : List ℕ} {n a k : ℕ} {out : List ℕ} {x : ℕ} {t o : List ℕ} → Word32 x → ReadPacked s n a k out x t o → byteOf 0 x ≢ 0
     → (x ≡ refusalOf s (read n a k out)) × (t ≡ s) × (o ≡ out)
 read-packed-refused {s} {n} {a} {k} {out} {x} h p r =
     let m = p .read-is .refusal-is in
-    let e = read-unique (p .read-is) (read-refused s n a k out (bits0 x) m r) in
+    let e = read-unique (p .read-is) (read-refused s n a k out (byteOf 0 x) m r) in
     (bytes-alone x h (e .1) (p .rest-is .0) (p .rest-is .1) ∙ m, e .2, e .3)
 
-pub write-packed-refused : {s : List ℕ} {n a : ℕ} {vs : List ℕ} {x : ℕ} {t : List ℕ} → Fits x → WritePacked s n a vs x t → bits0 x ≢ 0
+pub write-packed-refused : {s : List ℕ} {n a : ℕ} {vs : List ℕ} {x : ℕ} {t : List ℕ} → Word32 x → WritePacked s n a vs x t → byteOf 0 x ≢ 0
     → (x ≡ refusalOf s (write n a vs)) × (t ≡ s)
 write-packed-refused {s} {n} {a} {vs} {x} h p r =
     let m = p .write-is .refusal-is in
-    let e = write-unique (p .write-is) (write-refused s n a vs (bits0 x) m r) in
+    let e = write-unique (p .write-is) (write-refused s n a vs (byteOf 0 x) m r) in
     (bytes-alone x h (e .1) (p .rest-is .0) (p .rest-is .1) ∙ m, e .2)

@@ -5,9 +5,9 @@ ghost use mathlib.Core.Path.{_≡_};
 ghost use Prim.Native.Nat.{_<_};
 ghost use Rattle.model.specs.Ports.{reset, sample};
 ghost use Rattle.model.specs.Contracts.{monitorTold, limitsTold};
-ghost use Rattle.packing.specs.Packing.{bits0, refusalIn, valueIn, limitIn};
+ghost use Rattle.packing.specs.Packing.{byteOf, refusalIn, valueIn, limitIn};
 ghost use Rattle.searching.specs.Meaning.{firstSays};
-ghost use Rattle.bridge.specs.Face.{ReportPacked, ReadPacked, WritePacked, PlacePacked, KindPacked, AddPacked, OpenPacked, SamplePacked, FirstPacked, refusalOfFirst, valueOfFirst, value};
+ghost use Rattle.bridge.specs.Face.{ReportPacked, ReadPacked, WritePacked, PlacePacked, KindPacked, AddPacked, OpenPacked, SamplePacked, FirstPacked, valueOfFirst, upper};
 use searching::First;
 
 // ---- the calls that are lent the state to change it
@@ -94,7 +94,7 @@ pub extern "C" fn zikhrodan_limit(state: &[u8], quantity: u64, which: u64) -> f6
 // A refusal and a value beside it in one number.
 fn told(refusal: u8, n: u64) -> u64
     requires { ⌜ n < 72057594037927936 ⌝ }
-    ensures { λ r. ⌜ (bits0 r ≡ refusal) × (value r ≡ n) ⌝ }
+    ensures { λ r. ⌜ (byteOf 0 r ≡ refusal) × (upper r ≡ n) ⌝ }
 {
     refusal as u64 + 256 * n
 }
@@ -125,7 +125,7 @@ pub extern "C" fn zikhrodan_log_sample(log: &[u8], used: u64, position: u64) -> 
 
 // The refusal of an answer to the question, 0 where there is none.
 fn first_refusal(f: First) -> u8
-    ensures { λ r. ⌜ r ≡ refusalOfFirst (firstSays f) ⌝ }
+    ensures { λ r. ⌜ r ≡ refusalIn (firstSays f) ⌝ }
 {
     match f {
         First::At(_) => 0,

@@ -1,13 +1,13 @@
 -- Laws of single bits.
 -- Assumes nothing.
-use mathlib.Core.Path.{_≡_, sym, ap, _∙_}
-use mathlib.Core.Bool.{true, false, _||_}
+use mathlib.Core.Path.{_≡_, refl, sym, ap, _∙_}
+use mathlib.Core.Bool.{true, false, not, _&&_, _||_}
 use Prim.Native.Nat.{ℕ, zero, suc, _+_, _-_, _*_, _/_, _%_, _^_, _≤_, _<_, min, max}
 use native.Mathlib.Nat.{zero-div, div-eq-of-lt, mod-lt, lt-of-le-of-lt}
 use native.Mathlib.Omega.{arith}
 use lib.Arith.{digits-div, digits-mod}
 use lib.Bits.{bitAnd, bitOr, bitXor, differ, and-step, and-shr, and-le-l, or-step, or-shr, or-mod, or-zero-r, xor-step, xor-shr, xor-lt}
-use lib.Dec.{ltb}
+use lib.Dec.{ltb, eqb}
 use lib.Pow.{split, field, mod-mod-pow, shr-shr, pow-pos}
 use borrow.Author.Tests.{eqb-true, eqb-false, eq-eqb, ne-eqb, ltb-true, ltb-false}
 use Rattle.laws.specs.Tests.{if_then_else_}
@@ -124,3 +124,26 @@ bit-splice k j high low = case (ltb j k)
 -- the part that is replaced
 pub splice-low : (k high low : ℕ) → splice k high low % 2 ^ k ≡ low % 2 ^ k
 splice-low k high low = ap (λ (x : ℕ). x % 2 ^ k) (splice-digits k high low) ∙ digits-mod (high / 2 ^ k) (mod-lt low (pow-pos k))
+
+-- ---- bits taken away
+
+-- a with the bits of b taken away
+pub has-without : (j a b : ℕ) → has j (bitXor a (bitAnd a b)) ≡ (has j a && not (has j b))
+has-without j a b = ap (λ (x : ℕ). eqb x 1) (bit-xor j a (bitAnd a b) ∙ ap (differ (bit j a)) (bit-and j a b)) ∙ digit (bit j a) (bit j b) (bit-small j a) (bit-small j b)
+  where
+    digit : (x y : ℕ) → x < 2 → y < 2 → eqb (differ x (min x y)) 1 ≡ (eqb x 1 && not (eqb y 1))
+    digit zero y h k = let e : min 0 y ≡ 0 = omega arith in rw e
+    digit (suc zero) zero h k = refl
+    digit (suc zero) (suc zero) h k = refl
+    digit (suc zero) (suc (suc y)) h k = absurd (omega arith)
+    digit (suc (suc x)) y h k = absurd (omega arith)
+
+pub has-and : (j a b : ℕ) → has j (bitAnd a b) ≡ (has j a && has j b)
+has-and j a b = ap (λ (x : ℕ). eqb x 1) (bit-and j a b) ∙ digit (bit j a) (bit j b) (bit-small j a) (bit-small j b)
+  where
+    digit : (x y : ℕ) → x < 2 → y < 2 → eqb (min x y) 1 ≡ (eqb x 1 && eqb y 1)
+    digit zero y h k = let e : min 0 y ≡ 0 = omega arith in rw e
+    digit (suc zero) zero h k = refl
+    digit (suc zero) (suc zero) h k = refl
+    digit (suc zero) (suc (suc y)) h k = absurd (omega arith)
+    digit (suc (suc x)) y h k = absurd (omega arith)

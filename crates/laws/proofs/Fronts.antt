@@ -1,19 +1,29 @@
 -- Laws of the front of a list: its first n places replaced, once and again.
 -- Assumes nothing.
 use mathlib.Core.Path.{_≡_, refl, ap, _∙_}
+use mathlib.Core.Bool.{true}
 use mathlib.Core.List.{List}
-use Prim.Native.Nat.{ℕ, _+_, _≤_, _<_}
+use Prim.Native.Nat.{ℕ, _+_, _-_, _≤_, _<_}
 use native.Mathlib.Omega.{arith}
 use lib.Dec.{ltb, eqb}
 use lib.ListN.{length, set, length-set}
 use lib.Seq.{getD-set-other}
 use borrow.Author.Tests.{lt-ltb, le-ltb}
-use Rattle.laws.specs.Tests.{if_then_else_}
+use Rattle.laws.specs.Tests.{if_then_else_, covers}
 use Rattle.laws.specs.Lists.{at, patch}
-use Rattle.laws.proofs.Lists.{patch-length, patch-in, patch-else, is-patch, at-set}
+use Rattle.laws.proofs.Tests.{case, covers-true}
+use Rattle.laws.proofs.Lists.{table-agree, patch-length, patch-in, patch-else, is-patch, at-set}
 
 pub front-in : (n : ℕ) (f : ℕ → ℕ) (s : List ℕ) (i : ℕ) → i < n → i < length s → at (patch 0 n f s) i ≡ f i
 front-in n f s i h k = let e : 0 + i ≡ i = omega arith in rw e at (patch-in 0 n f s i h (omega arith))
+
+-- two of them agree wherever their numbers do
+pub front-agree : (n : ℕ) (f g : ℕ → ℕ) (s : List ℕ) (i : ℕ) → (ltb i n ≡ true → f i ≡ g i) → at (patch 0 n f s) i ≡ at (patch 0 n g s) i
+unfolding patch
+front-agree n f g s i e =
+    table-agree (length s) (λ j. if covers 0 n j then f (j - 0) else at s j) (λ j. if covers 0 n j then g (j - 0) else at s j) i (case (covers 0 n i)
+    (λ t. let l = covers-true 0 n i t .1 in let z : i - 0 ≡ i = omega arith in rw (t, z) (e (lt-ltb i n (omega arith))))
+    (λ t. rw t))
 
 -- a list is this one if, place by place, it has f below n and from there on what was there
 pub is-front : (n : ℕ) (f : ℕ → ℕ) (s l : List ℕ) → length l ≡ length s

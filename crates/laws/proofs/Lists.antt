@@ -27,6 +27,13 @@ table-at zero f i h = absurd (not-suc-le-zero h)
 table-at (suc n) f zero h = refl
 table-at (suc n) f (suc i) h = table-at n (λ k. f (suc k)) i (le-of-suc-le-suc h)
 
+-- two tables agree wherever their numbers do
+pub table-agree : (n : ℕ) (f g : ℕ → ℕ) (i : ℕ) → f i ≡ g i → at (table n f) i ≡ at (table n g) i
+unfolding table
+table-agree zero f g i e = refl
+table-agree (suc n) f g zero e = e
+table-agree (suc n) f g (suc i) e = table-agree n (λ k. f (suc k)) (λ k. g (suc k)) i e
+
 -- a list is the table of its own length that agrees with it at each place
 pub is-table : (l : List ℕ) (n : ℕ) (f : ℕ → ℕ) → length l ≡ n → ((i : ℕ) → i < n → at l i ≡ f i) → l ≡ table n f
 is-table l n f len same =

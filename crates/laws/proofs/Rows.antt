@@ -11,8 +11,8 @@ use lib.Dec.{ltb, eqb}
 use borrow.Author.Tests.{not-true, eqb-true, eqb-false, eq-eqb, ne-eqb, ltb-true}
 use native.Mathlib.Nat.{le-refl}
 use native.Mathlib.Omega.{arith}
-use Rattle.laws.specs.Tests.{if_then_else_, Row, firstOf, noneOf}
-use Rattle.laws.proofs.Tests.{same-test, and-left, and-right}
+use Rattle.laws.specs.Tests.{if_then_else_, Row, firstOf, noneOf, InOrder}
+use Rattle.laws.proofs.Tests.{same-test, and-left, and-right, and-both}
 
 -- the numbers of the rows are above k, and rise
 abbrev pub rising : ℕ → List Row → Bool
@@ -89,12 +89,31 @@ first-lowest k ((n, false) ∷ rs) e r m t =
 
 -- ---- rows in order
 
-rising-split : (j : ℕ) (before after : List Row) (k : ℕ) (t : Bool) → rising j (before ++ (k, t) ∷ after) ≡ true → (j < k) × (rising k after ≡ true)
-rising-split j [] after k t e = (ltb-true j k (and-left (ltb j k) (rising k after) e), and-right (ltb j k) (rising k after) e)
-rising-split j (r ∷ rs) after k t e =
-    let l = ltb-true j (r .0) (and-left (ltb j (r .0)) (rising (r .0) (rs ++ (k, t) ∷ after)) e) in
-    let s = rising-split (r .0) rs after k t (and-right (ltb j (r .0)) (rising (r .0) (rs ++ (k, t) ∷ after)) e) in
-    let u = s .0 in (omega arith, s .1)
+-- no number stands twice, or is 0
+abbrev pub distinct : List Row → Bool
+distinct [] = true
+distinct (r ∷ rs) = lacks (r .0) rs && distinct rs
+
+lacks-later : (before after : List Row) (k : ℕ) (t : Bool) → distinct (before ++ (k, t) ∷ after) ≡ true → lacks k after ≡ true
+lacks-later [] after k t e = and-left (lacks k after) (distinct after) e
+lacks-later (r ∷ rs) after k t e = lacks-later rs after k t (and-right (lacks (r .0) (rs ++ (k, t) ∷ after)) (distinct (rs ++ (k, t) ∷ after)) e)
+
+not-zero : (k : ℕ) (rs : List Row) → lacks k rs ≡ true → eqb k 0 ≡ false
+not-zero k [] e = not-true (eqb k 0) e
+not-zero k (r ∷ rs) e = not-zero k rs (and-right (not (eqb k (r .0))) (lacks k rs) e)
+
+distinct-named : (rs : List Row) → distinct rs ≡ true → named rs ≡ true
+distinct-named [] e = refl
+distinct-named (r ∷ rs) e =
+    rw (not-zero (r .0) rs (and-left (lacks (r .0) rs) (distinct rs) e)) (distinct-named rs (and-right (lacks (r .0) rs) (distinct rs) e))
+
+pub in-order : (rs : List Row) → distinct rs ≡ true → InOrder rs
+in-order rs e = record {
+  exact = λ before after k t q n. rw q (first-exact before after k t n (lacks-later before after k t (rw q at e)));
+  free = first-none rs (distinct-named rs e);
+}
+
+-- ---- numbers that rise
 
 rising-lacks : (k n : ℕ) (rs : List Row) → 0 < k → k ≤ n → rising n rs ≡ true → lacks k rs ≡ true
 rising-lacks k n [] h l e = rw (ne-eqb k 0 (λ z. omega arith))
@@ -102,26 +121,9 @@ rising-lacks k n (r ∷ rs) h l e =
     let u = ltb-true n (r .0) (and-left (ltb n (r .0)) (rising (r .0) rs) e) in
     rw (ne-eqb k (r .0) (λ z. omega arith)) (rising-lacks k (r .0) rs h (omega arith) (and-right (ltb n (r .0)) (rising (r .0) rs) e))
 
-rising-named : (k : ℕ) (rs : List Row) → rising k rs ≡ true → named rs ≡ true
-rising-named k [] e = refl
-rising-named k (r ∷ rs) e =
+pub rising-distinct : (k : ℕ) (rs : List Row) → rising k rs ≡ true → distinct rs ≡ true
+rising-distinct k [] e = refl
+rising-distinct k (r ∷ rs) e =
     let u = ltb-true k (r .0) (and-left (ltb k (r .0)) (rising (r .0) rs) e) in
-    rw (ne-eqb (r .0) 0 (λ z. omega arith)) (rising-named (r .0) rs (and-right (ltb k (r .0)) (rising (r .0) rs) e))
-
--- what rows whose numbers rise give
-pub record InOrder (rs : List Row) : Type 0 where
-  -- given that no lower number applies, a number is given exactly when its test passes
-  pub exact : (before after : List Row) (k : ℕ) (t : Bool) → rs ≡ before ++ (k, t) ∷ after → noneOf before ≡ true → (firstOf rs ≡ k) ↔ (t ≡ true)
-  -- of all that apply the lowest is given
-  pub lowest : (r : Row) → List·Memᴰ r rs → r .1 ≡ true → firstOf rs ≤ r .0
-  -- 0 is given exactly when none applies
-  pub free : (firstOf rs ≡ 0) ↔ (noneOf rs ≡ true)
-
-pub in-order : (rs : List Row) → rising 0 rs ≡ true → InOrder rs
-in-order rs e = record {
-  exact = λ before after k t q n.
-      let s = rising-split 0 before after k t (rw q at e) in
-      rw q (first-exact before after k t n (rising-lacks k k after (s .0) (le-refl k) (s .1)));
-  lowest = first-lowest 0 rs e;
-  free = first-none rs (rising-named 0 rs e);
-}
+    let v = and-right (ltb k (r .0)) (rising (r .0) rs) e in
+    and-both (rising-lacks (r .0) (r .0) rs (omega arith) (le-refl (r .0)) v) (rising-distinct (r .0) rs v)

@@ -1,9 +1,11 @@
 -- Tests: a choice by a test, runs of numbers, and the first of several tests that passes.
 -- Assumes nothing.
 use Prim.Native.Nat.{ℕ, suc, _+_, _-_}
+use mathlib.Core.Path.{_≡_}
+use mathlib.Core.Logic.{_↔_}
 use mathlib.Core.Bool.{Bool, true, false, not, _&&_}
-use mathlib.Core.List.{List, [], _∷_}
-use lib.Dec.{leb, ltb}
+use mathlib.Core.List.{List, [], _∷_, _++_, map}
+use lib.Dec.{eqb, leb, ltb}
 
 infix 10 if_then_else_
 abbrev pub if_then_else_ {ℓ} : {A : Type ℓ} → Bool → A → A → A
@@ -44,3 +46,20 @@ firstOf (r ∷ rs) = if r .1 then r .0 else firstOf rs
 abbrev pub noneOf : List Row → Bool
 noneOf [] = true
 noneOf (r ∷ rs) = not (r .1) && noneOf rs
+
+-- the numbers of rows, in their order
+abbrev pub numbersOf : List Row → List ℕ
+numbersOf rs = map (λ (r : Row). r .0) rs
+
+-- Which number is given: given that no earlier row applies, a row's exactly when its test passes; and 0 exactly when no row applies.
+pub record InOrder (rs : List Row) : Type 0 where
+  pub exact : (before after : List Row) (k : ℕ) (t : Bool) → rs ≡ before ++ (k, t) ∷ after → noneOf before ≡ true → (firstOf rs ≡ k) ↔ (t ≡ true)
+  pub free : (firstOf rs ≡ 0) ↔ (noneOf rs ≡ true)
+
+-- the number of a refusal, or what was asked for
+pub data Told (A : Type 0) : Type 0 where
+  refused : ℕ → Told A
+  given : A → Told A
+
+abbrev pub told : {A : Type 0} → List Row → A → Told A
+told rows a = if eqb (firstOf rows) 0 then given a else refused (firstOf rows)

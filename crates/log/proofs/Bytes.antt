@@ -10,12 +10,11 @@ use Rattle.laws.specs.Tests.{if_then_else_, covers}
 use Rattle.laws.specs.Lists.{at, patch}
 use Rattle.laws.proofs.Tests.{if-elim}
 use Rattle.block.specs.Block.{blockSize, grown, Bytes}
-use Rattle.log.specs.Log.{block, needsNew, noneLeft, put, newBlock, afterPowerUp, afterAdd, lastNumber}
+use Rattle.log.specs.Log.{block, needsNew, noneLeft, put, newBlock, afterPowerUp, afterAdd, lastNumber, Fit}
 use Rattle.block.proofs.Blocks.{fresh-count}
 use Rattle.block.proofs.Bytes.{bytes-table, bytes-fresh, bytes-grown}
-use Rattle.log.proofs.Fits.{Fit}
 use Rattle.log.proofs.Logs.{bytes-block}
-use Rattle.log.proofs.Calls.{add-elim}
+use Rattle.log.proofs.Adds.{add-elim}
 
 pub bytes-put : (log : List ℕ) (i : ℕ) (b : List ℕ) → Bytes log → Bytes b → Bytes (put log i b)
 unfolding put patch

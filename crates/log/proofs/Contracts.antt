@@ -12,22 +12,19 @@ use lib.Dec.{eqb}
 use lib.ListN.{length}
 use denote.Ref.{RefT, ptr, now}
 use borrow.Author.Tests.{ne-eqb, eq-eqb, eqb-true}
+use Rattle.laws.specs.Tests.{Row, firstOf}
 use Rattle.laws.proofs.Tests.{case}
 use Rattle.block.specs.Block.{blockSize, grown}
 use Rattle.log.specs.Log.{block, needsNew, put, newBlock, afterPowerUp, usedAfter}
-use Rattle.log.specs.Contracts.{addRefusal, powerUpRefusal, sampleRefusal, Added, Opened, Placed, Shown}
-use Rattle.log.proofs.Calls.{add-taken, add-room, power-up-room}
+use Rattle.log.specs.Contracts.{addRefusal, powerUpRefusal, sampleRefusal, Changed, Added, Opened, Placed, Shown}
+use Rattle.log.proofs.PowerUps.{power-up-room}
+use Rattle.log.proofs.Adds.{add-taken, add-room}
 
 -- ---- a refused call changes nothing
 
-pub add-refused : (log : List ℕ) (used : ℕ) (x : List ℕ) (r : ℕ) → r ≡ addRefusal log used x → r ≢ 0 → Added log used x r 0 log
-add-refused log used x r e d =
-    let n = ne-eqb (addRefusal log used x) 0 (λ z. d (e ∙ z)) in
-    record { refusal-is = e; used-is = rw n; log-is = rw n }
-
-pub power-up-refused : (log : List ℕ) (used r : ℕ) → r ≡ powerUpRefusal log used → r ≢ 0 → Opened log used r 0 log
-power-up-refused log used r e d =
-    let n = ne-eqb (powerUpRefusal log used) 0 (λ z. d (e ∙ z)) in
+pub changed-refused : (log : List ℕ) (rows : List Row) (more : ℕ) (changed : List ℕ) (r : ℕ) → r ≡ firstOf rows → r ≢ 0 → Changed log rows more changed r 0 log
+changed-refused log rows more changed r e d =
+    let n = ne-eqb (firstOf rows) 0 (λ z. d (e ∙ z)) in
     record { refusal-is = e; used-is = rw n; log-is = rw n }
 
 pub sample-refused : (log : List ℕ) (used k r : ℕ) → r ≡ sampleRefusal log used k → r ≢ 0 → Placed log used k r 0
@@ -56,13 +53,9 @@ opened-new log used r e z t d =
 
 -- ---- any two outcomes that a contract allows are equal
 
-pub added-unique : {log : List ℕ} {used : ℕ} {x : List ℕ} {r₁ r₂ n₁ n₂ : ℕ} {t₁ t₂ : List ℕ} → Added log used x r₁ n₁ t₁ → Added log used x r₂ n₂ t₂
-    → (r₁ ≡ r₂) × (n₁ ≡ n₂) × (t₁ ≡ t₂)
-added-unique p q = (p .refusal-is ∙ sym (q .refusal-is), p .used-is ∙ sym (q .used-is), p .log-is ∙ sym (q .log-is))
-
-pub opened-unique : {log : List ℕ} {used r₁ r₂ n₁ n₂ : ℕ} {t₁ t₂ : List ℕ} → Opened log used r₁ n₁ t₁ → Opened log used r₂ n₂ t₂
-    → (r₁ ≡ r₂) × (n₁ ≡ n₂) × (t₁ ≡ t₂)
-opened-unique p q = (p .refusal-is ∙ sym (q .refusal-is), p .used-is ∙ sym (q .used-is), p .log-is ∙ sym (q .log-is))
+pub changed-unique : {log : List ℕ} {rows : List Row} {more : ℕ} {changed : List ℕ} {r₁ r₂ n₁ n₂ : ℕ} {t₁ t₂ : List ℕ}
+    → Changed log rows more changed r₁ n₁ t₁ → Changed log rows more changed r₂ n₂ t₂ → (r₁ ≡ r₂) × (n₁ ≡ n₂) × (t₁ ≡ t₂)
+changed-unique p q = (p .refusal-is ∙ sym (q .refusal-is), p .used-is ∙ sym (q .used-is), p .log-is ∙ sym (q .log-is))
 
 pub placed-unique : {log : List ℕ} {used k r₁ r₂ s₁ s₂ : ℕ} → Placed log used k r₁ s₁ → Placed log used k r₂ s₂ → (r₁ ≡ r₂) × (s₁ ≡ s₂)
 placed-unique p q = (p .refusal-is ∙ sym (q .refusal-is), p .start-is ∙ sym (q .start-is))
@@ -74,8 +67,8 @@ shown-unique p q = (p .bytes-are ∙ sym (q .bytes-are), λ e. p .place-is e ∙
 
 -- ---- the used number after a call is one of the blocks that there are
 
-pub added-fits : {log : List ℕ} {used : ℕ} {x : List ℕ} {r n : ℕ} {t : List ℕ} → Added log used x r n t → blockSize * n ≤ length log
-added-fits {log} {used} {x} {r} {n} p = case (eqb (addRefusal log used x) 0)
+pub added-fits : (log : List ℕ) (used : ℕ) (x : List ℕ) {r n : ℕ} {t : List ℕ} → Added log used x r n t → blockSize * n ≤ length log
+added-fits log used x {r} {n} p = case (eqb (addRefusal log used x) 0)
     (λ q. let taken = eqb-true (addRefusal log used x) 0 q in
     let e : n ≡ usedAfter log used = p .used-is ∙ rw q in
     case (needsNew log used)
@@ -83,8 +76,8 @@ added-fits {log} {used} {x} {r} {n} p = case (eqb (addRefusal log used x) 0)
     (λ m. let h = add-taken log used x taken .1 .fits in let f : n ≡ used = e ∙ rw m in omega arith))
     (λ q. let e : n ≡ 0 = p .used-is ∙ rw q in omega arith)
 
-pub opened-fits : {log : List ℕ} {used r n : ℕ} {t : List ℕ} → Opened log used r n t → blockSize * n ≤ length log
-opened-fits {log} {used} {r} {n} p = case (eqb (powerUpRefusal log used) 0)
+pub opened-fits : (log : List ℕ) (used : ℕ) {r n : ℕ} {t : List ℕ} → Opened log used r n t → blockSize * n ≤ length log
+opened-fits log used {r} {n} p = case (eqb (powerUpRefusal log used) 0)
     (λ q. let h = power-up-room log used (eqb-true (powerUpRefusal log used) 0 q) in
     let e : n ≡ suc used = p .used-is ∙ rw q in omega arith)
     (λ q. let e : n ≡ 0 = p .used-is ∙ rw q in omega arith)

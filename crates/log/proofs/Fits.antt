@@ -10,16 +10,10 @@ use lib.ListN.{length}
 use borrow.Author.Tests.{eqb-true, ltb-false, le-ltb, eq-eqb, not-false}
 use Rattle.laws.proofs.Tests.{and-both, or-left, or-right}
 use Rattle.block.specs.Block.{blockSize, number, samplesIn, soundBlock}
-use Rattle.log.specs.Log.{blocks, block, follows, sound, samples, lastNumber, put, misfit, unsound}
+use Rattle.log.specs.Log.{blocks, block, follows, sound, samples, lastNumber, put, misfit, unsound, Fit}
 use Rattle.log.proofs.Logs.{sound-same, samples-same, put-length, put-here, put-other}
 
 -- ---- 15
-
--- a log that is not refused 15
-pub record Fit (log : List ℕ) (used : ℕ) : Type 0 where
-  pub whole : length log % blockSize ≡ 0
-  pub fits : used ≤ blocks log
-  pub good : sound log used ≡ true
 
 -- memory that has the used blocks
 pub fitting : (log : List ℕ) (used : ℕ) → misfit log used ≡ false → (length log % blockSize ≡ 0) × (used ≤ blocks log)

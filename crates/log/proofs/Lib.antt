@@ -1,6 +1,8 @@
 pub mod Logs
 pub mod Fits
-pub mod Calls
+pub mod PowerUps
+pub mod Adds
+pub mod Unused
 pub mod Positions
 pub mod Contracts
 pub mod Stretches

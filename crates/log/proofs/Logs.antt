@@ -41,18 +41,24 @@ module _ (log : List ℕ) where
 
 -- ---- two memories whose first n blocks are the same
 
-module _ (log t : List ℕ) where
-  pub sound-same : (n : ℕ) → ((i : ℕ) → i < n → block t i ≡ block log i) → sound t n ≡ sound log n
-  unfolding sound
-  sound-same zero same = refl
-  sound-same (suc zero) same = rw (same 0 (omega arith))
-  sound-same (suc (suc n)) same =
-      rw (sound-same (suc n) (λ i h. same i (omega arith)), same (suc n) (omega arith), same n (omega arith))
+-- what goes from block to block is the same of both
+pub by-blocks : {A : Type 0} (F : List ℕ → ℕ → A) → ((log t : List ℕ) → F t zero ≡ F log zero)
+    → ((log t : List ℕ) (n : ℕ) → ((i : ℕ) → i ≤ n → block t i ≡ block log i) → F t n ≡ F log n → F t (suc n) ≡ F log (suc n))
+    → (log t : List ℕ) (n : ℕ) → ((i : ℕ) → i < n → block t i ≡ block log i) → F t n ≡ F log n
+by-blocks F first next log t zero same = first log t
+by-blocks F first next log t (suc n) same = next log t n (λ i h. same i (omega arith)) (by-blocks F first next log t n (λ i h. same i (omega arith)))
 
-  pub samples-same : (n : ℕ) → ((i : ℕ) → i < n → block t i ≡ block log i) → samples t n ≡ samples log n
-  unfolding samples
-  samples-same zero same = refl
-  samples-same (suc n) same = rw (samples-same n (λ i h. same i (omega arith)), same n (omega arith))
+follows-same : (log t : List ℕ) (n : ℕ) → ((i : ℕ) → i ≤ n → block t i ≡ block log i) → follows t n ≡ follows log n
+follows-same log t zero same = refl
+follows-same log t (suc n) same = rw (same (suc n) (omega arith), same n (omega arith))
+
+pub sound-same : (log t : List ℕ) (n : ℕ) → ((i : ℕ) → i < n → block t i ≡ block log i) → sound t n ≡ sound log n
+unfolding sound
+sound-same = by-blocks sound (λ log t. refl) (λ log t n same e. rw (e, same n (omega arith), follows-same log t n same))
+
+pub samples-same : (log t : List ℕ) (n : ℕ) → ((i : ℕ) → i < n → block t i ≡ block log i) → samples t n ≡ samples log n
+unfolding samples
+samples-same = by-blocks samples (λ log t. refl) (λ log t n same e. rw (e, same n (omega arith)))
 
 -- whose bytes there are the same
 pub blocks-same : (log t : List ℕ) (n : ℕ) → length t ≡ length log → blockSize * n ≤ length log → ((i : ℕ) → i < blockSize * n → at t i ≡ at log i)

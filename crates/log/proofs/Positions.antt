@@ -15,11 +15,11 @@ use Rattle.laws.specs.Lists.{part}
 use Rattle.laws.proofs.Tests.{case}
 use Rattle.laws.proofs.Parts.{part-part}
 use Rattle.block.specs.Block.{blockSize, sampleSize, count, slot, samplesIn}
-use Rattle.log.specs.Log.{blocks, block, sound, samples, total, placeOf}
+use Rattle.log.specs.Log.{blocks, block, sound, samples, total, placeOf, Fit}
 use Rattle.log.specs.Contracts.{sampleRefusal, Placed}
 use Rattle.block.proofs.Blocks.{sound-count, samples-length, samples-at}
 use Rattle.log.proofs.Logs.{sound-less, sound-block, total-more}
-use Rattle.log.proofs.Fits.{Fit, fit-sound}
+use Rattle.log.proofs.Fits.{fit-sound}
 
 module _ (log : List ℕ) where
   -- the walk: before block n there are fewer samples, with it there are enough

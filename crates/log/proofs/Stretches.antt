@@ -16,10 +16,10 @@ use Rattle.laws.proofs.Tests.{case}
 use Rattle.laws.proofs.Lists.{patch-length, patch-in, patch-else, is-patch}
 use Rattle.laws.proofs.Parts.{part-part, part-tail}
 use Rattle.block.specs.Block.{blockSize, number, count, fresh, grown}
-use Rattle.log.specs.Log.{blocks, block, sound, samples, lastNumber, needsNew, put, newBlock, afterPowerUp, afterAdd, usedAfter, wrongSample, unsound, noneLeft}
+use Rattle.log.specs.Log.{blocks, block, sound, samples, lastNumber, needsNew, put, newBlock, afterPowerUp, afterAdd, usedAfter, wrongSample, unsound, noneLeft, Fit}
 use Rattle.log.specs.Contracts.{addRefusal, powerUpRefusal}
 use Rattle.log.proofs.Logs.{sound-same, samples-same, stretch-block, stretch-samples, stretch-sound}
-use Rattle.log.proofs.Fits.{Fit, fit-sound}
+use Rattle.log.proofs.Fits.{fit-sound}
 
 module _ (log : List ℕ) (m n : ℕ) (was : Fit log (m + suc n)) where
   abbrev rest : List ℕ

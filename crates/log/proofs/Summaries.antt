@@ -6,11 +6,12 @@ use mathlib.Core.List.{List}
 use Prim.Native.Nat.{ℕ, suc, _-_, _<_}
 use native.Mathlib.Omega.{arith}
 use Rattle.block.specs.Block.{count, mostSamples, hasSummary, grown}
-use Rattle.log.specs.Log.{block, lastNumber, newBlock, afterPowerUp, afterAdd, usedAfter}
+use Rattle.log.specs.Log.{block, newBlock, afterPowerUp, afterAdd, usedAfter}
 use Rattle.log.specs.Contracts.{addRefusal, powerUpRefusal}
 use Rattle.block.proofs.Blocks.{fresh-length, fresh-count, fresh-summary, grown-length, grown-summary}
 use Rattle.log.proofs.Logs.{put-here}
-use Rattle.log.proofs.Calls.{left-over, add-elim, add-taken, power-up-room}
+use Rattle.log.proofs.PowerUps.{left-over, power-up-room}
+use Rattle.log.proofs.Adds.{add-elim, add-taken}
 
 -- block `usedAfter - 1` is the one that an add writes
 pub add-summary : (log : List ℕ) (used : ℕ) (x : List ℕ) → addRefusal log used x ≡ 0 → hasSummary (block (afterAdd log used x) (usedAfter log used - 1)) ≡ true

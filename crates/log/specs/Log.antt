@@ -1,6 +1,6 @@
 -- Document 02, Ask 1: a log, lent memory of whole blocks "of which the first so many are used".
 -- Assumes nothing.
-use Rattle.laws.specs.Words.{ℕ, zero, suc, _+_, _-_, _*_, _/_, _%_, Bool, true, not, _&&_, _||_, List, [], _∷_, _++_, length, eqb, ltb, leb, if_then_else_, Row, at, patch, part}
+use Rattle.laws.specs.Words.{ℕ, zero, suc, _+_, _-_, _*_, _/_, _%_, _≤_, _≡_, Bool, true, not, _&&_, _||_, List, [], _∷_, _++_, length, eqb, ltb, leb, if_then_else_, Row, at, patch, part}
 use Rattle.block.specs.Block.{blockSize, sampleSize, number, count, mostSamples, slot, samplesIn, soundBlock, fresh, grown}
 
 -- ---- blocks
@@ -82,6 +82,12 @@ misfit log used = not (eqb (length log % blockSize) 0) || ltb (blocks log) used
 -- 15: that, "or an unsound log"
 abbrev pub unsound : List ℕ → ℕ → Bool
 unsound log used = misfit log used || not (sound log used)
+
+-- a log that is not refused 15
+pub record Fit (log : List ℕ) (used : ℕ) : Type 0 where
+  pub whole : length log % blockSize ≡ 0
+  pub fits : used ≤ blocks log
+  pub good : sound log used ≡ true
 
 -- 14: "none is unused or the number is 4294967295"
 abbrev pub noneLeft : List ℕ → ℕ → Bool

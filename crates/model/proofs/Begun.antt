@@ -1,39 +1,45 @@
 -- What an accepted call says of the bytes, and what lasts over any other than an accepted reset. From an accepted reset on: the bytes are
 -- 688, and their state is the model's, sound after any history.
 -- Assumes nothing.
-use mathlib.Core.Path.{_≡_, refl, sym, ap, _∙_}
+use mathlib.Core.Path.{_≡_, refl, ap, _∙_}
 use mathlib.Core.List.{List}
 use mathlib.Core.Bool.{true, false, _&&_}
 use Prim.Native.Nat.{ℕ}
-use native.Mathlib.Omega.{arith}
 use lib.Dec.{eqb}
 use lib.ListN.{length}
-use borrow.Author.Tests.{eqb-true, eq-eqb, not-true, not-false}
-use Rattle.laws.proofs.Tests.{case, and-left, and-right}
+use borrow.Author.Tests.{eqb-true, not-true, not-false}
+use Rattle.laws.specs.Lists.{part}
+use Rattle.laws.proofs.Tests.{and-left, and-right}
 use Rattle.laws.proofs.Rows.{first-none}
+use Rattle.ports.specs.Modules
+use Rattle.ports.specs.Effects
+use Rattle.ports.specs.Bytes
+use Rattle.ports.proofs.Steps
 use Rattle.model.specs.Ports.{State, Call, reset}
-use Rattle.model.specs.Map.{memorySize, stateSize}
-use Rattle.model.specs.Reset.{codesRight, imagePage}
-use Rattle.model.specs.Refusals.{rows, accepted}
+use Rattle.model.specs.Map.{memorySize, stateSize, pageSize}
+use Rattle.model.specs.Reset.{codesRight}
+use Rattle.model.specs.Refusals.{accepted}
+use Rattle.model.specs.Module.{document01}
 use Rattle.model.specs.Demands.{isReset}
-use Rattle.model.specs.Calls.{done, step, Calls, run}
+use Rattle.model.specs.Calls.{step, Calls, run}
 use Rattle.model.specs.Bytes.{memoryOf, stateOf, rowsOf, refusalOf, after, runs}
-use Rattle.model.proofs.Bytes.{refusal-long, after-length, runs-length, state-after, state-runs}
+use Rattle.model.proofs.Names.{done}
+use Rattle.model.proofs.Bytes.{refusal-long, state-after}
 use Rattle.model.proofs.Lasting.{Lasts, step-lasts}
-use Rattle.model.proofs.Sound.{Good, good-after}
+use Rattle.model.proofs.Sound.{Good}
+use Rattle.model.proofs.Lawful.{lawful}
 
 -- a call that isn't refused is on 688 bytes
 pub taken-size : (s : List ℕ) (c : Call) → refusalOf s c ≡ 0 → length s ≡ stateSize
-unfolding refusalOf rowsOf
-taken-size s c e = case (eqb (length s) stateSize) (λ t. eqb-true (length s) stateSize t) (λ t. let z : _≡_ {A = ℕ} 1 0 = rw t at e in absurd (omega arith))
+taken-size = Steps.taken-size document01 lawful
 
 -- and the model takes it too
 pub taken-state : (s : List ℕ) (c : Call) → refusalOf s c ≡ 0 → accepted (stateOf s) c ≡ true
-taken-state s c e = eq-eqb _ 0 (sym (refusal-long s c (taken-size s c e)) ∙ e)
+taken-state = Steps.taken-state document01 lawful
 
 -- the memory that it leaves
 pub taken-memory : (s : List ℕ) (c : Call) → refusalOf s c ≡ 0 → memoryOf (after s c) ≡ done (stateOf s) c .mem
-unfolding stateOf step
+unfolding Bytes.stateOf Effects.step
 taken-memory s c e = ap (λ (m : State). m .mem) (state-after s c (taken-size s c e)) ∙ rw (taken-state s c e)
 
 -- what lasts but for an accepted reset
@@ -42,22 +48,22 @@ after-lasts s c e r = rw (state-after s c e) (step-lasts (stateOf s) c (rw (refu
 
 module _ (s img : List ℕ) (begun : refusalOf s (reset img) ≡ 0) where
   -- the image has 640 bytes, and its check codes are right
-  pub begun-image : (length img ≡ memorySize) × (codesRight (imagePage img) ≡ true)
-  unfolding refusalOf rowsOf rows
+  pub begun-image : (length img ≡ memorySize) × (codesRight (part pageSize pageSize img) ≡ true)
+  unfolding Bytes.refusalOf Bytes.rowsOf Modules.rows
   begun-image = let n = first-none (rowsOf s (reset img)) refl .0 begun in search (and-left, and-right, eqb-true, not-true, not-false)
 
   pub begun-size : length (after s (reset img)) ≡ stateSize
-  begun-size = after-length s (reset img) (taken-size s (reset img) begun)
+  begun-size = Steps.begun-size document01 lawful s img begun
 
   pub begun-state : stateOf (after s (reset img)) ≡ step (stateOf s) (reset img)
-  begun-state = state-after s (reset img) (taken-size s (reset img) begun)
+  begun-state = Steps.begun-state document01 lawful s img begun
 
   pub begun-good : Good (stateOf (after s (reset img)))
-  begun-good = rw begun-state (good-after (stateOf s) img (taken-state s (reset img) begun))
+  begun-good = Steps.begun-good document01 lawful s img begun
 
   -- after any history
   pub since-size : (h : Calls) → length (runs (after s (reset img)) h) ≡ stateSize
-  since-size h = runs-length (after s (reset img)) h begun-size
+  since-size = Steps.since-size document01 lawful s img begun
 
   pub since-state : (h : Calls) → stateOf (runs (after s (reset img)) h) ≡ run (stateOf (after s (reset img))) h
-  since-state h = state-runs (after s (reset img)) h begun-size
+  since-state = Steps.since-state document01 lawful s img begun

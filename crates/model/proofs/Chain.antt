@@ -1,120 +1,83 @@
 -- The chain: whatever calls that keep their contracts are made after one another, the demands' theorems are of the bytes that they
--- leave and of what they answer: flags, and that neither port's reads are disturbed by the other's calls.
+-- leave and of what they answer: flags, and that neither port is answered otherwise for the other's calls.
 -- Assumes nothing.
-use mathlib.Core.Path.{_≡_, refl, sym, ap, _∙_}
-use mathlib.Core.Bool.{true, false}
+use mathlib.Core.Path.{_≡_, sym}
+use mathlib.Core.Bool.{true, false, _&&_}
 use mathlib.Core.Logic.{_↔_}
 use mathlib.Core.List.{List}
 use Prim.Native.Nat.{ℕ, _+_, _-_, _<_}
-use native.Mathlib.Omega.{arith}
-use lib.Dec.{lit<}
-use lib.ListN.{length}
+use lib.Dec.{ltb, lit<}
+use Rattle.ports.specs.Contracts.{Served}
 use Rattle.laws.specs.Bits.{bit}
 use Rattle.laws.specs.Lists.{at}
 use Rattle.laws.specs.Tests.{covers, within}
-use Rattle.laws.proofs.Tests.{case}
-use Rattle.laws.proofs.Fronts.{front-in}
-use Rattle.model.specs.Ports.{Port, recorder, operator, caller, State, Call, reset, read, write}
-use Rattle.model.specs.Map.{flags, recordSize, stateSize, base, pageAt, seat}
-use Rattle.model.specs.Refusals.{accepted}
-use Rattle.model.specs.Reading.{seen}
-use Rattle.model.specs.Calls.{Calls, _▷_, Answer, answer}
-use Rattle.model.specs.Bytes.{stateOf, refusalOf, after, runs, answerOf}
-use Rattle.model.specs.Contracts.{Reported, ReadDone, Served, unused, reported, reading, writing}
-use Rattle.model.specs.Demands.{concerns, only, Since, hidden, veiled, told, heard}
-use Rattle.model.proofs.Bytes.{record-at, refusal-long, answer-long}
-use Rattle.model.proofs.Begun.{since-size}
-use Rattle.model.proofs.Demand1.{answer-refused}
-use Rattle.model.proofs.Demand2.{read-room, flag-rule}
-use Rattle.model.proofs.Demand3.{only-next, recorder-undisturbed, operator-undisturbed}
+use Rattle.ports.proofs.Chain
+use Rattle.model.specs.Ports.{recorder, operator, caller, Call, reset}
+use Rattle.model.specs.Map.{flags, recordSize, base, pageAt, seat}
+use Rattle.model.specs.Reading.{isShared}
+use Rattle.model.specs.Module.{document01}
+use Rattle.model.specs.Calls.{Calls}
+use Rattle.model.specs.Bytes.{runs}
+use Rattle.model.specs.Contracts.{Reported, ReadDone, WriteDone}
+use Rattle.model.specs.Demands.{concerns, only, Since}
+use Rattle.model.proofs.Bytes.{record-at}
+use Rattle.model.proofs.Demand2.{flag-rule}
+use Rattle.model.proofs.Lawful.{lawful}
 
 -- the bytes that are left are the model's run
-pub served-runs : {s : List ℕ} {h : Calls} {t : List ℕ} → Served s h t → t ≡ runs s h
-unfolding runs
-served-runs unused = refl
-served-runs (reported {c = c} d p) = p .state-is ∙ ap (λ (l : List ℕ). after l c) (served-runs d)
-served-runs (reading {n = n} {a = a} {k = k} {out = out} d p) = p .state-is ∙ ap (λ (l : List ℕ). after l (read n a k out)) (served-runs d)
-served-runs (writing {n = n} {a = a} {vs = vs} d p) = p .state-is ∙ ap (λ (l : List ℕ). after l (write n a vs)) (served-runs d)
-
--- what was said last, where the call was the port's
-next-heard : (p : Port) (say : List ℕ → Call → Answer) (s : List ℕ) (h k : Calls) (c : Call) → concerns p c ≡ true
-    → heard p say s (h ▷ c) ≡ heard p say s (k ▷ c) → say (runs s h) c ≡ say (runs s k) c
-unfolding heard
-next-heard p say s h k c e q = let z = rw e at q in cc
-
--- what the recorder is told is its answer, save what is shared
-refusal-told : (t : List ℕ) (c : Call) → length t ≡ stateSize → refusalOf t c ≡ told recorder (stateOf t) c .refused
-unfolding told
-refusal-told t c long = refusal-long t c long
-
-count-told : (t : List ℕ) (c : Call) → length t ≡ stateSize → answerOf t recorder c .counted ≡ told recorder (stateOf t) c .counted
-unfolding told answer
-count-told t c long = rw (answer-long t recorder c long)
-
-shown-told : (t : List ℕ) (a n : ℕ) (out : List ℕ) → length t ≡ stateSize → (j : ℕ) → j < n
-    → hidden recorder (seat (at t (base recorder + pageAt)) (a + j)) ≡ false
-    → at (answerOf t recorder (read 2 a n out) .output) j ≡ at (told recorder (stateOf t) (read 2 a n out) .output) j
-unfolding told answer veiled
-shown-told t a n out long j l bare =
-    let m : State = stateOf t in
-    let c : Call = read 2 a n out in
-    rw (answer-long t recorder c long) (case (accepted m c)
-    (λ e. let room = read-room m 2 a n out e in
-    rw e (front-in n (λ i. seen (m .mem) (m .own recorder) (a + i)) out j l (omega arith)
-    ∙ sym (front-in n (λ i. veiled m recorder (a + i)) out j l (omega arith) ∙ rw (record-at t recorder pageAt (lit< tt), bare))))
-    (λ e. rw e))
+pub served-runs : {s : List ℕ} {h : Calls} {t : List ℕ} → Served document01 s h t → t ≡ runs s h
+served-runs = Chain.served-runs document01
 
 -- a reset that keeps its contract and answers no refusal, and any calls after it
 module _ {s img : List ℕ} {x y : ℕ} {t₀ : List ℕ} (begun : Reported s (reset img) 0 x y t₀) where
-  after-reset : {h : Calls} {t : List ℕ} → Served t₀ h t → t ≡ runs (after s (reset img)) h
-  after-reset {h} d = served-runs d ∙ ap (λ (l : List ℕ). runs l h) (begun .state-is)
-
   -- demand 2: what a read shows of a flag is whether its condition stood since
-  pub flag-served : {h : Calls} {t : List ℕ} → Served t₀ h t → {n a k c : ℕ} {out u shown : List ℕ} → ReadDone t n a k out 0 c u shown
+  pub flag-served : {h : Calls} {t : List ℕ} → Served document01 t₀ h t → {n a k c : ℕ} {out u shown : List ℕ} → ReadDone t n a k out 0 c u shown
       → (b j : ℕ) → within flags b ≡ true → covers a k b ≡ true → (bit j (at shown (b - a)) ≡ 1) ↔ Since img (caller n) b j h
   flag-served {h} d {n} {a} {k} {c} {out} p b j f v =
-      let e = after-reset d in
+      let e = Chain.after-reset document01 lawful begun d in
       rw (p .out-is, e) (flag-rule s img (sym (begun .refusal-is)) h n a k out (rw e at (sym (p .refusal-is))) b j f v)
 
-  -- demand 3: no operator call changes a byte of the recorder's record
-  pub recorder-served : {h k : Calls} {t u : List ℕ} → Served t₀ h t → Served t₀ k u → only recorder h ≡ only recorder k
-      → (i : ℕ) → i < recordSize → at t (base recorder + i) ≡ at u (base recorder + i)
-  recorder-served {h} {k} d f q i l = rw (after-reset d, after-reset f) (recorder-undisturbed s img (sym (begun .refusal-is)) h k q .record-same i l)
+  -- ---- demand 3: of two histories with the same recorder calls, samples and resets, and any operator calls
 
-  -- nor what its next read answers, and shows save on the shared list
-  pub recorder-reads : {h k : Calls} {t u : List ℕ} → Served t₀ h t → Served t₀ k u → only recorder h ≡ only recorder k
-      → {a n r₁ r₂ x₁ x₂ : ℕ} {out t₁ u₁ o₁ o₂ : List ℕ} → ReadDone t 2 a n out r₁ x₁ t₁ o₁ → ReadDone u 2 a n out r₂ x₂ u₁ o₂
-      → (r₁ ≡ r₂) × (x₁ ≡ x₂)
-      × ((j : ℕ) → j < n → hidden recorder (seat (at t (base recorder + pageAt)) (a + j)) ≡ false → at o₁ j ≡ at o₂ j)
-  recorder-reads {h} {k} {t} {u} d f q {a} {n} {out = out} p p′ =
-      let c : Call = read 2 a n out in
-      let long-t : length t ≡ stateSize = ap length (after-reset d) ∙ since-size s img (sym (begun .refusal-is)) h in
-      let long-u : length u ≡ stateSize = ap length (after-reset f) ∙ since-size s img (sym (begun .refusal-is)) k in
-      let agree = recorder-undisturbed s img (sym (begun .refusal-is)) (h ▷ c) (k ▷ c) (only-next recorder h k c q) in
-      let same : told recorder (stateOf t) c ≡ told recorder (stateOf u) c =
-      rw (after-reset d, after-reset f) (next-heard recorder (λ l c. told recorder (stateOf l) c) (after s (reset img)) h k c refl (agree .told-same)) in
-      let page : at t (base recorder + pageAt) ≡ at u (base recorder + pageAt) = recorder-served d f q pageAt (lit< tt) in (
-        p .refusal-is ∙ refusal-told t c long-t ∙ ap (λ (r : Answer). r .refused) same ∙ sym (refusal-told u c long-u) ∙ sym (p′ .refusal-is),
-        p .count-is ∙ count-told t c long-t ∙ ap (λ (r : Answer). r .counted) same ∙ sym (count-told u c long-u) ∙ sym (p′ .count-is),
-        λ j l bare. ap (λ (o : List ℕ). at o j) (p .out-is) ∙ shown-told t a n out long-t j l bare ∙ ap (λ (r : Answer). at (r .output) j) same
-            ∙ sym (shown-told u a n out long-u j l (rw (← page) bare)) ∙ ap (λ (o : List ℕ). at o j) (sym (p′ .out-is)),
-      )
+  module _ {h k : Calls} {t u : List ℕ} (d : Served document01 t₀ h t) (f : Served document01 t₀ k u) where
+    module _ (q : only recorder h ≡ only recorder k) where
+      -- no byte of the recorder's record differs
+      pub recorder-served : (i : ℕ) → i < recordSize → at t (base recorder + i) ≡ at u (base recorder + i)
+      recorder-served = Chain.recorder-served document01 lawful begun d f q
 
-  -- and no recorder call a byte outside it
-  pub operator-served : {h k : Calls} {t u : List ℕ} → Served t₀ h t → Served t₀ k u → only operator h ≡ only operator k
-      → (i : ℕ) → i < base recorder → at t i ≡ at u i
-  operator-served {h} {k} d f q i l = rw (after-reset d, after-reset f) (operator-undisturbed s img (sym (begun .refusal-is)) h k q .state-same i l)
+      -- nor what its next read answers, and shows save on the shared list
+      pub recorder-reads : {a n r₁ r₂ x₁ x₂ : ℕ} {out t₁ u₁ o₁ o₂ : List ℕ} → ReadDone t 2 a n out r₁ x₁ t₁ o₁ → ReadDone u 2 a n out r₂ x₂ u₁ o₂
+          → (r₁ ≡ r₂) × (x₁ ≡ x₂) × ((j : ℕ) → (ltb j n && isShared (seat (at t (base recorder + pageAt)) (a + j))) ≡ false → at o₁ j ≡ at o₂ j)
+      recorder-reads p p′ =
+          let r = Chain.recorder-reads document01 lawful begun d f q p p′ in
+          (r .0, r .1, λ j bare. r .2 j (rw (record-at t recorder pageAt (lit< tt)) bare))
 
-  -- nor does one change what the operator's next read answers and shows
-  pub operator-reads : {h k : Calls} {t u : List ℕ} → Served t₀ h t → Served t₀ k u → only operator h ≡ only operator k
-      → {a n r₁ r₂ x₁ x₂ : ℕ} {out t₁ u₁ o₁ o₂ : List ℕ} → ReadDone t 1 a n out r₁ x₁ t₁ o₁ → ReadDone u 1 a n out r₂ x₂ u₁ o₂
-      → (r₁ ≡ r₂) × (x₁ ≡ x₂) × (o₁ ≡ o₂)
-  operator-reads {h} {k} {t} {u} d f q {a} {n} {out = out} p p′ =
-      let c : Call = read 1 a n out in
-      let same : answerOf t operator c ≡ answerOf u operator c =
-      rw (after-reset d, after-reset f) (next-heard operator (λ l c. answerOf l operator c) (after s (reset img)) h k c refl
-      (operator-undisturbed s img (sym (begun .refusal-is)) (h ▷ c) (k ▷ c) (only-next operator h k c q) .answers-same)) in (
-        p .refusal-is ∙ sym (answer-refused t operator c) ∙ ap (λ (r : Answer). r .refused) same ∙ answer-refused u operator c ∙ sym (p′ .refusal-is),
-        p .count-is ∙ ap (λ (r : Answer). r .counted) same ∙ sym (p′ .count-is),
-        p .out-is ∙ ap (λ (r : Answer). r .output) same ∙ sym (p′ .out-is),
-      )
+      -- nor what its next write answers
+      pub recorder-writes : {a r₁ r₂ x₁ x₂ : ℕ} {vs t₁ u₁ : List ℕ} → WriteDone t 2 a vs r₁ x₁ t₁ → WriteDone u 2 a vs r₂ x₂ u₁ → (r₁ ≡ r₂) × (x₁ ≡ x₂)
+      recorder-writes = Chain.recorder-writes document01 lawful begun d f q
+
+      -- nor what the next sample or reset tells it
+      pub recorder-reports : {c : Call} → concerns recorder c ≡ true → {r₁ r₂ x₁ x₂ y₁ y₂ : ℕ} {t₁ u₁ : List ℕ}
+          → Reported t c r₁ x₁ y₁ t₁ → Reported u c r₂ x₂ y₂ u₁ → (r₁ ≡ r₂) × (y₁ ≡ y₂)
+      recorder-reports = Chain.recorder-reports document01 lawful begun d f q
+
+    -- ---- and of two with the same operator calls, samples and resets, and any recorder calls
+
+    module _ (q : only operator h ≡ only operator k) where
+      -- no byte outside the recorder's record differs
+      pub operator-served : (i : ℕ) → i < base recorder → at t i ≡ at u i
+      operator-served = Chain.operator-served document01 lawful begun d f q
+
+      -- nor what the operator's next read answers and shows
+      pub operator-reads : {a n r₁ r₂ x₁ x₂ : ℕ} {out t₁ u₁ o₁ o₂ : List ℕ} → ReadDone t 1 a n out r₁ x₁ t₁ o₁ → ReadDone u 1 a n out r₂ x₂ u₁ o₂
+          → (r₁ ≡ r₂) × (x₁ ≡ x₂) × (o₁ ≡ o₂)
+      operator-reads = Chain.operator-reads document01 lawful begun d f q
+
+      -- nor what its next write answers
+      pub operator-writes : {a r₁ r₂ x₁ x₂ : ℕ} {vs t₁ u₁ : List ℕ} → WriteDone t 1 a vs r₁ x₁ t₁ → WriteDone u 1 a vs r₂ x₂ u₁ → (r₁ ≡ r₂) × (x₁ ≡ x₂)
+      operator-writes = Chain.operator-writes document01 lawful begun d f q
+
+      -- nor what the next sample or reset tells it
+      pub operator-reports : {c : Call} → concerns operator c ≡ true → {r₁ r₂ x₁ x₂ y₁ y₂ : ℕ} {t₁ u₁ : List ℕ}
+          → Reported t c r₁ x₁ y₁ t₁ → Reported u c r₂ x₂ y₂ u₁ → (r₁ ≡ r₂) × (x₁ ≡ x₂)
+      operator-reports = Chain.operator-reports document01 lawful begun d f q

@@ -19,10 +19,11 @@ use Rattle.laws.proofs.Finite.{always-at}
 use Rattle.laws.proofs.Lists.{part-length}
 use Rattle.model.specs.Map.{pageSize}
 use Rattle.model.specs.Reset.{codesRight}
-use Rattle.model.specs.Readout.{soundPage, fields, fieldRun, ouiField, fieldStart, fieldLength, pageUsed, trimmed}
+use Rattle.model.specs.Readout.{soundPage, fields, fieldRun, fieldStart, fieldLength, pageUsed, trimmed}
 use Rattle.model.specs.Refusals.{identityRows, identityRefusal}
 use Rattle.model.specs.Calls.{viewOf}
 use Rattle.model.specs.Contracts.{Located, Viewed, past}
+use Rattle.model.specs.Stories.{pageWith}
 
 -- "A refusal ..: its view is empty"; where there is none, the field number is 1 to 6 and the page that is used is sound
 pub refused-view : (live factory : List ℕ) (f : ℕ)
@@ -79,7 +80,7 @@ run-fits f h =
 pub field-fits : (page : List ℕ) (f : ℕ) → f ≤ 6 → fieldStart f + fieldLength page f ≤ pageSize
 field-fits page f h =
     let n : fieldLength page f ≤ fieldRun f .many =
-    if-elim (λ k. k ≤ fieldRun f .many) (eqb f ouiField) (λ e. omega arith) (λ e. trimmed-le page (fieldStart f) (fieldRun f .many)) in
+    if-elim (λ k. k ≤ fieldRun f .many) (eqb f 2) (λ e. omega arith) (λ e. trimmed-le page (fieldStart f) (fieldRun f .many)) in
     let m = run-fits f h in
     omega arith
 
@@ -138,11 +139,7 @@ module _ {live factory r : RefT (List ℕ)} {f no page start long : ℕ} (l : Lo
 
 -- ---- computed
 
--- a sound page whose OUI is v 0 0
-pageWith : ℕ → List ℕ
-pageWith v = table pageSize (λ i. if eqb i 37 || eqb i 63 then v else 0)
-
 -- "A sound live page is used, else the factory one"
-live-first : (viewOf (pageWith 1) (pageWith 2) ouiField ≡ 1 ∷ 0 ∷ 0 ∷ []) × (viewOf [] (pageWith 2) ouiField ≡ 2 ∷ 0 ∷ 0 ∷ [])
+live-first : (viewOf (pageWith 1) (pageWith 2) 2 ≡ 1 ∷ 0 ∷ 0 ∷ []) × (viewOf [] (pageWith 2) 2 ≡ 2 ∷ 0 ∷ 0 ∷ [])
 unfolding pageWith soundPage codesRight table sum
 live-first = (refl, refl)

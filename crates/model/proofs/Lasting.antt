@@ -15,7 +15,7 @@ use Rattle.laws.specs.Lists.{at}
 use Rattle.laws.proofs.Tests.{case, if-both, or-left, or-right, covers-in, covers-true, covers-above}
 use Rattle.laws.proofs.Finite.{always-at}
 use Rattle.model.specs.Ports.{Port, operator, recorder, Places, State, Call, reset, sample, read, write, caller}
-use Rattle.model.specs.Map.{pageSize, paged, inPage, memorySize, statusAt, optionsAt, pageAt, supported, Seat, flag, mine, common, status, blank, seat}
+use Rattle.model.specs.Map.{pageSize, paged, inPage, memorySize, statusAt, pageAt, supported, Seat, flag, mine, common, status, blank, seat}
 use Rattle.model.specs.Refusals.{accepted}
 use Rattle.model.specs.Reset.{emptied, inPage02, fresh}
 use Rattle.model.specs.Samples.{stored, conditions, conds}
@@ -23,7 +23,9 @@ use Rattle.model.specs.Writing.{classOf, written, entered, store, puts}
 use Rattle.model.specs.Reading.{shared}
 use Rattle.model.specs.Readout.{inUnit, quantity, limit}
 use Rattle.model.specs.Demands.{isReset}
-use Rattle.model.specs.Calls.{done, step}
+use Rattle.ports.specs.Effects
+use Rattle.model.specs.Calls.{step}
+use Rattle.model.proofs.Names.{done}
 
 -- ---- the places
 
@@ -136,7 +138,7 @@ unfolding fresh
 fresh-lasting img i old e = let r = apart i e in rw (r .no-status, r .no-emptied, r .no-page02)
 
 done-lasts : (m : State) (c : Call) → isReset c ≡ false → Lasts (done m c .mem) (m .mem)
-unfolding done
+unfolding Effects.done
 done-lasts m (reset img) e = absurd (true≢false e)
 done-lasts m (sample x) e = sample-lasts (m .mem) x
 done-lasts m (read n a k out) e = same-lasts (m .mem)
@@ -144,14 +146,14 @@ done-lasts m (write n a vs) e = off-lasts (off-puts m (caller n) (m .own (caller
 
 -- nothing but an accepted reset changes what the supported pages, the limits and byte 220 say
 pub step-lasts : (m : State) (c : Call) → (accepted m c && isReset c) ≡ false → Lasts (step m c .mem) (m .mem)
-unfolding step
+unfolding Effects.step
 step-lasts m c e = case (accepted m c) (λ t. rw t (done-lasts m c (rw t at e))) (λ t. rw t (same-lasts (m .mem)))
 
 -- ---- what goes by it
 
 pub supported-lasts : {f g : Places} → Lasts f g → (x : ℕ) → supported f x ≡ supported g x
 unfolding supported lasting
-supported-lasts l x = rw (l .flat, l .places optionsAt refl)
+supported-lasts l x = rw (l .flat, l .places (paged 0 195) refl)
 
 -- the memory with all other places blanked
 keep : Places → Places
@@ -170,7 +172,7 @@ pub conds-same : {f g : Places} → ((i : ℕ) → lasting i ≡ true → f i �
 conds-same {f} {g} l x b = conds-keep f x b ∙ ap (λ (h : Places). conds h x b) (keep-same l) ∙ sym (conds-keep g x b)
 
 -- the thresholds of each quantity
-limits-at : (n : ℕ) → (128 ≤ quantity n .limits) × (quantity n .limits ≤ 192)
+limits-at : (n : ℕ) → (128 ≤ quantity n .limitsFrom) × (quantity n .limitsFrom ≤ 192)
 limits-at zero = (omega arith, omega arith)
 limits-at (suc zero) = (omega arith, omega arith)
 limits-at (suc (suc zero)) = (omega arith, omega arith)
@@ -185,6 +187,6 @@ threshold-lasting i h k = rw (covers-above (paged 0 128) 128 i (omega arith), co
 pub limit-same : {f g : Places} → ((i : ℕ) → lasting i ≡ true → f i ≡ g i) → (n w : ℕ) → w < 4 → limit f n w ≡ limit g n w
 limit-same {f} {g} l n w h =
     let (a, b) = limits-at n in
-    let i = paged 3 (quantity n .limits + 2 * w) in
+    let i = paged 3 (quantity n .limitsFrom + 2 * w) in
     ap₂ (λ (x y : ℕ). inUnit (quantity n .kind) (x * 256 + y))
     (l i (threshold-lasting i (omega arith) (omega arith))) (l (i + 1) (threshold-lasting (i + 1) (omega arith) (omega arith)))

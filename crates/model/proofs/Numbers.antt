@@ -1,8 +1,8 @@
 -- The numbers that the definitions work out are the paper's: computed, one after the other.
 -- Assumes nothing.
 use mathlib.Core.Path.{_≡_, refl}
-use mathlib.Core.List.{List, [], _∷_, map}
-use Prim.Native.Nat.{ℕ, _*_}
+use mathlib.Core.List.{[], _∷_, map}
+use Prim.Native.Nat.{_*_}
 use Rattle.laws.specs.Tests.{Run}
 use Rattle.laws.specs.Lists.{table}
 use Rattle.model.specs.Ports.{operator, recorder}
@@ -37,7 +37,7 @@ sample-numbers : sampleSize ∷ map (λ (q : Quantity). q .number) quantities �
 sample-numbers = refl
 
 -- "22-23, 26-27, 34-41, 42-49, 50-57": where each quantity's numbers begin, and how many bytes they are
-stored-numbers : (map (λ (q : Quantity). q .stored) quantities ≡ 22 ∷ 26 ∷ 34 ∷ 42 ∷ 50 ∷ [])
+stored-numbers : (map (λ (q : Quantity). q .storedFrom) quantities ≡ 22 ∷ 26 ∷ 34 ∷ 42 ∷ 50 ∷ [])
     × (map (λ (q : Quantity). 2 * q .channels) quantities ≡ 2 ∷ 2 ∷ 8 ∷ 8 ∷ 8 ∷ [])
 stored-numbers = (refl, refl)
 
@@ -46,18 +46,18 @@ field-numbers : map (λ (r : Run). r .many) fields ≡ 16 ∷ 3 ∷ 16 ∷ 2 ∷
 field-numbers = refl
 
 -- "0 to 13 in sample order": where each monitor is stored, and what its number is divided by
-abbrev all : List ℕ
-all = 0 ∷ 1 ∷ 2 ∷ 3 ∷ 4 ∷ 5 ∷ 6 ∷ 7 ∷ 8 ∷ 9 ∷ 10 ∷ 11 ∷ 12 ∷ 13 ∷ []
-
-monitor-numbers : map (λ n. monitorAt (monitored n quantities) n) all ≡ 22 ∷ 26 ∷ 34 ∷ 36 ∷ 38 ∷ 40 ∷ 42 ∷ 44 ∷ 46 ∷ 48 ∷ 50 ∷ 52 ∷ 54 ∷ 56 ∷ []
+monitor-numbers : table 14 (λ n. monitorAt (monitored n quantities) n)
+    ≡ 22 ∷ 26 ∷ 34 ∷ 36 ∷ 38 ∷ 40 ∷ 42 ∷ 44 ∷ 46 ∷ 48 ∷ 50 ∷ 52 ∷ 54 ∷ 56 ∷ []
+unfolding table
 monitor-numbers = refl
 
-divisor-numbers : map (λ n. divisor (monitored n quantities .kind)) all
+divisor-numbers : table 14 (λ n. divisor (monitored n quantities .kind))
     ≡ 256 ∷ 10000 ∷ 10000 ∷ 10000 ∷ 10000 ∷ 10000 ∷ 500 ∷ 500 ∷ 500 ∷ 500 ∷ 10000 ∷ 10000 ∷ 10000 ∷ 10000 ∷ []
+unfolding table
 divisor-numbers = refl
 
 -- "quantity 0 to 4: temperature, supply, Rx power, bias, Tx power": where the thresholds of each begin
-limits-numbers : map (λ n. paged 3 (quantity n .limits)) (0 ∷ 1 ∷ 2 ∷ 3 ∷ 4 ∷ []) ≡ 512 ∷ 528 ∷ 560 ∷ 568 ∷ 576 ∷ []
+limits-numbers : map (λ n. paged 3 (quantity n .limitsFrom)) (0 ∷ 1 ∷ 2 ∷ 3 ∷ 4 ∷ []) ≡ 512 ∷ 528 ∷ 560 ∷ 568 ∷ 576 ∷ []
 limits-numbers = refl
 
 -- where each of the six identity fields begins in its page

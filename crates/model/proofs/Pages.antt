@@ -12,15 +12,17 @@ use borrow.Author.Tests.{eqb-true, lt-leb}
 use Rattle.laws.specs.Lists.{at, part}
 use Rattle.laws.proofs.Tests.{case, covers-in}
 use Rattle.laws.proofs.Lists.{part-length, part-at}
+use Rattle.ports.specs.Bytes
+use Rattle.ports.specs.Effects
 use Rattle.model.specs.Ports.{Places, Call, reset}
 use Rattle.model.specs.Map.{pageSize, paged, stateSize}
-use Rattle.model.specs.Reset.{imagePage}
 use Rattle.model.specs.Readout.{soundPage, fieldOf, limit, limits}
 use Rattle.model.specs.Refusals.{identityRefusal}
-use Rattle.model.specs.Calls.{viewOf, done}
+use Rattle.model.specs.Calls.{viewOf}
 use Rattle.model.specs.Bytes.{memoryOf, stateOf, refusalOf, after}
 use Rattle.model.specs.Contracts.{given, limitsTold}
 use Rattle.model.specs.Demands.{isReset}
+use Rattle.model.proofs.Names.{done}
 use Rattle.model.proofs.Lasting.{lasting, fresh-lasting, limit-same}
 use Rattle.model.proofs.Bytes.{memory-at, after-length}
 use Rattle.model.proofs.Begun.{taken-size, taken-memory, after-lasts, begun-image, begun-size}
@@ -51,34 +53,34 @@ page-kept s c r = case (eqb (refusalOf s c) 0)
     let l = after-length s c k in
     same-page (after s c) s (omega arith) (omega arith)
     (λ i a b. sym (memory-at (after s c) i (omega arith)) ∙ after-lasts s c k r .places i (page-lasting i a b) ∙ memory-at s i (omega arith)))
-    (λ t. unfold after in rw t)
+    (λ t. unfold Bytes.after in rw t)
 
 -- what lasts is the image's after an accepted reset
 begun-lasting : (s img : List ℕ) → refusalOf s (reset img) ≡ 0 → (i : ℕ) → lasting i ≡ true → memoryOf (after s (reset img)) i ≡ at img i
-unfolding done
+unfolding Effects.done
 begun-lasting s img e i t = ap (λ (f : Places). f i) (taken-memory s (reset img) e) ∙ fresh-lasting img i _ t
 
 module _ (s img : List ℕ) (e : refusalOf s (reset img) ≡ 0) where
   -- so page 00h is
-  pub page-begun : part pageSize pageSize (after s (reset img)) ≡ imagePage img
-  unfolding stateOf
+  pub page-begun : part pageSize pageSize (after s (reset img)) ≡ part pageSize pageSize img
+  unfolding Bytes.stateOf
   page-begun =
       let k = begun-image s img e .0 in
       let l = begun-size s img e in
       same-page (after s (reset img)) img (omega arith) (omega arith)
       (λ i a b. sym (memory-at (after s (reset img)) i (omega arith)) ∙ begun-lasting s img e i (page-lasting i a b))
 
-  page-sound : soundPage (imagePage img) ≡ true
+  page-sound : soundPage (part pageSize pageSize img) ≡ true
   unfolding soundPage
   page-sound =
       let n = begun-image s img e .0 in
-      let long : length (imagePage img) ≡ pageSize = part-length pageSize pageSize img (omega arith) in
+      let long : length (part pageSize pageSize img) ≡ pageSize = part-length pageSize pageSize img (omega arith) in
       rw (long, begun-image s img e .1)
 
   -- that page is sound, so that identity shows each of its fields, whatever the factory page
   pub identity-begun : (factory : List ℕ) (f : ℕ) → 1 ≤ f → f ≤ 6
       → (identityRefusal (part pageSize pageSize (after s (reset img))) factory f ≡ 0)
-      × (viewOf (part pageSize pageSize (after s (reset img))) factory f ≡ fieldOf (imagePage img) f)
+      × (viewOf (part pageSize pageSize (after s (reset img))) factory f ≡ fieldOf (part pageSize pageSize img) f)
   identity-begun factory f l h =
       let known = covers-in 1 6 f l (omega arith) in
       rw page-begun (rw (known, page-sound), rw (known, page-sound))
@@ -101,9 +103,9 @@ limits-begun s img q e h =
 
 -- nothing but an accepted reset changes them
 pub limits-kept : (s : List ℕ) (c : Call) (q : ℕ) → (eqb (refusalOf s c) 0 && isReset c) ≡ false → q < 5 → limitsTold (after s c) q ≡ limitsTold s q
-unfolding stateOf
+unfolding Bytes.stateOf
 limits-kept s c q r h = case (eqb (refusalOf s c) 0)
     (λ t.
     let k = taken-size s c (eqb-true (refusalOf s c) 0 t) in
-    limits-given (after s c) q (after-length s c k) h ∙ ap given (limits-same (memoryOf (after s c)) (memoryOf s) q (only-reset-changes s c k r .limits q)) ∙ sym (limits-given s q k h))
-    (λ t. unfold after in rw t)
+    limits-given (after s c) q (after-length s c k) h ∙ ap given (limits-same (memoryOf (after s c)) (memoryOf s) q (only-reset-changes s c k r .limits-same q)) ∙ sym (limits-given s q k h))
+    (λ t. unfold Bytes.after in rw t)

@@ -1,4 +1,4 @@
--- Both records are sound after an accepted reset, and every call keeps them so.
+-- What soundness is, and that each change keeps a record sound.
 -- Assumes nothing.
 use mathlib.Core.Path.{_≡_, refl, ap, _∙_}
 use Prim.Native.Nat.{ℕ, suc, _%_, _<_}
@@ -12,14 +12,14 @@ use Rattle.laws.specs.Tests.{if_then_else_, covers}
 use Rattle.laws.specs.Bits.{has, splice}
 use Rattle.laws.proofs.Tests.{case, and-left, and-right, and-both, if-both}
 use Rattle.laws.proofs.Bits.{or-high, splice-low}
-use Rattle.model.specs.Ports.{Port, Places, State, Call, reset, sample, read, write, caller, give}
-use Rattle.model.specs.Map.{statusAt, temperatureFlags, supplyFlags, vendorFlags, temperatureMask, supplyMask, flagOf, lowMaskOf, pageAt, supported, tidy, sound, Seat, flag, mine, common, status, blank, seat}
-use Rattle.model.specs.Refusals.{accepted}
-use Rattle.model.specs.Samples.{conditions, conds, raised}
+use Rattle.model.specs.Ports.{Port, Places, State, give}
+use Rattle.model.specs.Map.{statusAt, flagOf, lowMaskOf, pageAt, supported, tidy, sound, Seat, flag, mine, common, status, blank, seat}
+use Rattle.ports.proofs.Lawful
+use Rattle.ports.proofs.Ports.{give-elim}
+use Rattle.model.specs.Module.{document01}
+use Rattle.model.specs.Samples.{conditions, conds, stored, raised}
 use Rattle.model.specs.Reading.{cleared}
 use Rattle.model.specs.Writing.{ownClass, written, entered, store, puts}
-use Rattle.model.specs.Calls.{done, step, Calls, start, _▷_, run}
-use Rattle.model.proofs.Ports.{give-elim}
 use Rattle.model.proofs.Lasting.{supported-lasts, store-lasts, sample-lasts}
 
 -- ---- what soundness is
@@ -38,16 +38,16 @@ unfolding sound
 sound-page mem o e = supported-small mem (o pageAt) (search and-left)
 
 -- both records are sound
-pub record Good (m : State) : Type 0 where
-  pub both : (p : Port) → sound (m .mem) (m .own p) ≡ true
+abbrev pub Good : State → Type 0
+Good m = Lawful.Good document01 m
 
 -- the tests of a record, as facts
 record Tidy (o : Places) : Type 0 where
-  f8 : o (flagOf vendorFlags) ≡ 0
-  f6 : o (flagOf temperatureFlags) % 16 ≡ 0
-  f7 : o (flagOf supplyFlags) % 16 ≡ 0
-  m103 : o (lowMaskOf temperatureMask) % 16 ≡ 0
-  m104 : o (lowMaskOf supplyMask) % 16 ≡ 0
+  f8 : o (flagOf 8) ≡ 0
+  f6 : o (flagOf 6) % 16 ≡ 0
+  f7 : o (flagOf 7) % 16 ≡ 0
+  m103 : o (lowMaskOf 103) % 16 ≡ 0
+  m104 : o (lowMaskOf 104) % 16 ≡ 0
 
 tidy-to : (o : Places) → tidy o ≡ true → Tidy o
 unfolding tidy
@@ -152,34 +152,25 @@ good-store m q v s g = go s (λ p. supported-lasts (store-lasts m q v s) (m .own
     go status h = unfold store in g
     go blank h = unfold store in g
 
-good-puts : (m : State) (q : Port) (g a : ℕ) (vs : List ℕ) → Good m → Good (puts m q g a vs)
+pub good-puts : (m : State) (q : Port) (g a : ℕ) (vs : List ℕ) → Good m → Good (puts m q g a vs)
 unfolding puts
 good-puts m q g a [] t = t
 good-puts m q g a (v ∷ vs) t = good-puts (store m q v (seat g a)) q g (suc a) vs (good-store m q v (seat g a) t)
 
--- a reset makes both sound, whatever stood before
-pub good-reset : (m : State) (img : List ℕ) → Good (done m (reset img))
-unfolding done supported
-good-reset m img = make _ (λ p. refl) (λ p. tidy-zero)
+-- ---- each call
 
-good-done : (m : State) (c : Call) → Good m → Good (done m c)
-unfolding done raised cleared
-good-done m (reset img) g = good-reset m img
-good-done m (sample x) g =
-    make _ (λ p. supported-lasts (sample-lasts (m .mem) x) (m .own p pageAt) ∙ page-of m g p) (λ p. tidy-raised (m .mem) x (m .own p) (tidy-at m g p))
-good-done m (read n a k out) g = give-good m (caller n) _ g (page-of m g (caller n)) (tidy-cleared a k (m .own (caller n)) (tidy-at m g (caller n)))
-good-done m (write n a vs) g = good-puts m (caller n) (m .own (caller n) pageAt) a vs g
+pub sound-sample : (mem : Places) (x : List ℕ) (o : Places) → sound mem o ≡ true → sound (λ i. stored mem x i (mem i)) (raised mem x o) ≡ true
+unfolding sound raised
+sound-sample mem x o e =
+    and-both (supported-lasts (sample-lasts mem x) (o pageAt) ∙ and-left (supported mem (o pageAt)) (tidy o) e)
+    (tidy-of (raised mem x o) (tidy-raised mem x o (tidy-to o (and-right (supported mem (o pageAt)) (tidy o) e))))
 
--- a sound state stays sound
-pub good-step : (m : State) (c : Call) → Good m → Good (step m c)
-unfolding step
-good-step m c g = case (accepted m c) (λ h. rw h (good-done m c g)) (λ h. rw h g)
+pub sound-read : (mem : Places) (a n : ℕ) (o : Places) → sound mem o ≡ true → sound mem (cleared a n o) ≡ true
+unfolding sound cleared
+sound-read mem a n o e =
+    and-both (and-left (supported mem (o pageAt)) (tidy o) e) (tidy-of (cleared a n o) (tidy-cleared a n o (tidy-to o (and-right (supported mem (o pageAt)) (tidy o) e))))
 
-pub good-run : (m : State) (h : Calls) → Good m → Good (run m h)
-unfolding run
-good-run m start g = g
-good-run m (h ▷ c) g = good-step (run m h) c (good-run m h g)
-
-pub good-after : (m : State) (img : List ℕ) → accepted m (reset img) ≡ true → Good (step m (reset img))
-unfolding step
-good-after m img e = rw e (good-reset m img)
+-- records of zeros are sound on any memory
+pub sound-zeros : (mem : Places) → sound mem (λ k. 0) ≡ true
+unfolding sound supported
+sound-zeros mem = tidy-of (λ k. 0) tidy-zero

@@ -11,7 +11,7 @@ use native.Mathlib.Omega.{arith}
 use lib.Dec.{ltb, eqb}
 use lib.ListN.{length}
 use borrow.Author.Tests.{eqb-true, eq-eqb, ne-eqb, ltb-true, ltb-false, le-leb, lt-leb, not-true, not-false}
-use Rattle.laws.specs.Tests.{if_then_else_, within}
+use Rattle.laws.specs.Tests.{if_then_else_, within, _to_}
 use Rattle.laws.specs.Bits.{bit}
 use Rattle.laws.specs.Lists.{at}
 use Rattle.laws.proofs.Tests.{case, if-elim, and-left, and-right, or-left, covers-true}
@@ -19,12 +19,14 @@ use Rattle.laws.proofs.Finite.{always, always-at}
 use Rattle.laws.proofs.Rows.{first-none}
 use Rattle.laws.proofs.Bits.{bit-splice}
 use Rattle.model.specs.Ports.{Port, operator, recorder, nobody, caller, Places, State, write}
-use Rattle.model.specs.Map.{pageSize, memorySize, statusAt, flags, lowMasks, highMasks, selectAt, lowMaskOf, highMaskOf, pageAt, recordSize, base, stateSize, Seat, flag, mine, common, status, blank, blanks, seat, supported, sound}
-use Rattle.model.specs.Writing.{Class, none, all, lowFour, lowThree, highFour, page, ownClass, classOf, reaches, written, entered, store, puts}
-use Rattle.model.specs.Refusals.{beyond, rows, refusal, accepted}
-use Rattle.model.specs.Bytes.{place}
+use Rattle.model.specs.Map.{pageSize, memorySize, statusAt, flags, lowMasks, highMasks, lowMaskOf, highMaskOf, pageAt, recordSize, base, stateSize, Seat, flag, mine, common, status, blank, seat, supported, sound}
+use Rattle.model.specs.Writing.{Class, noBits, all, lowFour, lowThree, highFour, page, ownClass, classOf, reaches, written, entered, store, puts}
+use Rattle.model.specs.Refusals.{refusal, accepted}
 use Rattle.model.specs.Demands.{placeOf}
-use Rattle.model.proofs.Ports.{give-elim, give-own, written-same}
+use Rattle.ports.specs.Modules
+use Rattle.model.proofs.Names.{beyond, rows, place}
+use Rattle.ports.proofs.Ports.{give-elim, give-own}
+use Rattle.model.proofs.Ports.{written-same}
 use Rattle.model.proofs.Lasting.{store-lasts, supported-lasts}
 use Rattle.model.proofs.Sound.{sound-page}
 use Rattle.model.proofs.Bytes.{place-memory, place-own, Spot, inMemory, inRecord, spot}
@@ -44,8 +46,8 @@ unfolding seat
 seat-within g a l h =
     if-elim Within (within flags a) (λ t. let r = covers-true (flags .first) (flags .many) a t in omega arith) (λ f₁.
     if-elim Within (within lowMasks a) (λ t. let r = covers-true (lowMasks .first) (lowMasks .many) a t in omega arith) (λ f₂.
-    if-elim Within (eqb a selectAt) (λ t. omega arith) (λ f₃.
-    if-elim Within (within blanks a) (λ t. tt) (λ f₄.
+    if-elim Within (eqb a 127) (λ t. omega arith) (λ f₃.
+    if-elim Within (within (119 to 126) a) (λ t. tt) (λ f₄.
     if-elim Within (eqb a statusAt) (λ t. tt) (λ f₅.
     if-elim Within (ltb a pageSize) (λ t. let u = ltb-true a pageSize t in omega arith) (λ f₆.
     if-elim Within (eqb g 3 && within highMasks a)
@@ -57,7 +59,7 @@ ownAddress : ℕ → ℕ
 ownAddress k =
     if ltb k (flags .many) then flags .first + k
     else (if ltb k (highMaskOf (highMasks .first)) then lowMasks .first + (k - lowMaskOf (lowMasks .first))
-    else (if ltb k pageAt then highMasks .first + (k - highMaskOf (highMasks .first)) else selectAt))
+    else (if ltb k pageAt then highMasks .first + (k - highMaskOf (highMasks .first)) else 127))
 
 -- the address that leads to place i, with page g selected
 address : Port → ℕ → ℕ → ℕ
@@ -168,7 +170,7 @@ puts-hit m p g a (v ∷ vs) l r (suc k) i h e =
 pub written-bits : (mem : Places) (c : Class) (j old v : ℕ) → (c ≡ page → supported mem v ≡ true)
     → bit j (written mem c old v) ≡ (if reaches c j then bit j v else bit j old)
 unfolding written
-written-bits mem none j old v s = refl
+written-bits mem noBits j old v s = refl
 written-bits mem all j old v s = refl
 written-bits mem lowFour j old v s = bit-splice 4 j old v
 written-bits mem lowThree j old v s = bit-splice 3 j old v
@@ -186,7 +188,7 @@ page-unsupported mem old v e = rw e
 -- its addresses end at 255, its page is one of the four, its port is one of the two, and that port's record is sound
 pub accepted-range : (m : State) (n a : ℕ) (vs : List ℕ) → accepted m (write n a vs) ≡ true
     → (a + length vs ≤ 256) × (m .own (caller n) pageAt < 4) × (nobody n ≡ false) × (sound (m .mem) (m .own (caller n)) ≡ true)
-unfolding refusal rows
+unfolding Modules.refusal Modules.rows
 accepted-range m n a vs e =
     let r = first-none (rows m (write n a vs)) refl .0 (eqb-true (refusal m (write n a vs)) 0 e) in
     let inside : beyond a (length vs) ≡ false = search (and-left, and-right, not-true, or-left) in

@@ -1,41 +1,29 @@
 -- What each call promises, for every input: an equation for each thing that it leaves or answers.
 -- Assumes nothing.
-use Rattle.laws.specs.Words.{ℕ, _+_, _≡_, List, length, eqb, Float, if_then_else_, Row, firstOf, RefT, ptr, now}
-use Rattle.model.specs.Ports.{operator, recorder, caller, Call, read, write}
+use Rattle.laws.specs.Words.{ℕ, _+_, _≡_, List, length, eqb, Float, if_then_else_, RefT, ptr, now}
+pub use Rattle.laws.specs.Words.{Told, refused, given, told}
+use Rattle.ports.specs.Contracts
+use Rattle.model.specs.Ports.{Call}
+use Rattle.model.specs.Module.{document01}
 use Rattle.model.specs.Refusals.{identityRefusal, monitorRows, limitsRows}
 use Rattle.model.specs.Readout.{soundPage, fieldStart, Measured, monitor, limits}
-use Rattle.model.specs.Calls.{viewOf, Calls, start, _▷_}
-use Rattle.model.specs.Bytes.{memoryOf, refusalOf, after, answerOf}
+use Rattle.model.specs.Calls.{viewOf}
+use Rattle.model.specs.Bytes.{memoryOf}
 
--- ---- the calls that are lent the state to change it
+-- ---- the calls that are lent the state to change it: as for any module with two ports (ports, specs/Contracts.antt)
 
 -- a reset or a sample, on the state s: it answers a refusal and both ports' counts, and leaves the state t
-pub record Reported (s : List ℕ) (c : Call) (refusal first second : ℕ) (t : List ℕ) : Type 0 where
-  pub refusal-is : refusal ≡ refusalOf s c
-  pub operator-is : first ≡ answerOf s operator c .counted
-  pub recorder-is : second ≡ answerOf s recorder c .counted
-  pub state-is : t ≡ after s c
+abbrev pub Reported : List ℕ → Call → ℕ → ℕ → ℕ → List ℕ → Type 0
+Reported s c refusal first second t = Contracts.Reported document01 s c refusal first second t
 
 -- a read of k bytes at address a by port n, into the memory out: it answers a refusal and the port's count, and leaves the state t
 -- and the output memory shown
-pub record ReadDone (s : List ℕ) (n a k : ℕ) (out : List ℕ) (refusal counted : ℕ) (t shown : List ℕ) : Type 0 where
-  pub refusal-is : refusal ≡ refusalOf s (read n a k out)
-  pub count-is : counted ≡ answerOf s (caller n) (read n a k out) .counted
-  pub state-is : t ≡ after s (read n a k out)
-  pub out-is : shown ≡ answerOf s (caller n) (read n a k out) .output
+abbrev pub ReadDone : List ℕ → ℕ → ℕ → ℕ → List ℕ → ℕ → ℕ → List ℕ → List ℕ → Type 0
+ReadDone s n a k out refusal counted t shown = Contracts.ReadDone document01 s n a k out refusal counted t shown
 
 -- a write of the bytes vs at address a by port n
-pub record WriteDone (s : List ℕ) (n a : ℕ) (vs : List ℕ) (refusal counted : ℕ) (t : List ℕ) : Type 0 where
-  pub refusal-is : refusal ≡ refusalOf s (write n a vs)
-  pub count-is : counted ≡ answerOf s (caller n) (write n a vs) .counted
-  pub state-is : t ≡ after s (write n a vs)
-
--- the bytes t are what calls leave of the bytes s, one after the other, each keeping its contract; the history is of these calls
-pub data Served (s : List ℕ) : Calls → List ℕ → Type 0 where
-  unused : Served s start s
-  reported : {h : Calls} {c : Call} {r x y : ℕ} {t u : List ℕ} → Served s h t → Reported t c r x y u → Served s (h ▷ c) u
-  reading : {h : Calls} {n a k r x : ℕ} {t u out o : List ℕ} → Served s h t → ReadDone t n a k out r x u o → Served s (h ▷ read n a k out) u
-  writing : {h : Calls} {n a r x : ℕ} {t u vs : List ℕ} → Served s h t → WriteDone t n a vs r x u → Served s (h ▷ write n a vs) u
+abbrev pub WriteDone : List ℕ → ℕ → ℕ → List ℕ → ℕ → ℕ → List ℕ → Type 0
+WriteDone s n a vs refusal counted t = Contracts.WriteDone document01 s n a vs refusal counted t
 
 -- ---- identity
 
@@ -56,14 +44,6 @@ pub record Viewed (live factory : RefT (List ℕ)) (f : ℕ) (r : RefT (List ℕ
   pub place-is : identityRefusal (now live) (now factory) f ≡ 0 → ptr r ≡ past (if soundPage (now live) then live else factory) (fieldStart f)
 
 -- ---- monitors and limits
-
--- the number of a refusal, or what was asked for
-pub data Told (A : Type 0) : Type 0 where
-  refused : ℕ → Told A
-  given : A → Told A
-
-abbrev pub told : {A : Type 0} → List Row → A → Told A
-told rows a = if eqb (firstOf rows) 0 then given a else refused (firstOf rows)
 
 abbrev pub monitorTold : List ℕ → ℕ → Told Measured
 monitorTold s n = told (monitorRows s n) (monitor (memoryOf s) n)

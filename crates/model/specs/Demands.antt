@@ -1,53 +1,21 @@
--- The words that the three demands use: who made a call, what a read of a flag byte clears, which conditions stood since, what a
--- port is told, which raised flag is unmasked, which bit a write reaches.
+-- The words that the demands use beside those of any module with two ports (ports, specs/Demands.antt): which conditions stood since,
+-- which bit a write reaches, what lasts.
 -- Assumes nothing.
-use Rattle.laws.specs.Words.{ℕ, _+_, _<_, _≡_, Bool, true, false, not, _&&_, Option, none, some, List, [], _∷_, List·Memᴰ, length, if_then_else_, covers, noneOf, bit, at}
-use Rattle.model.specs.Ports.{Port, operator, recorder, same, nobody, caller, Places, State, Call, reset, sample, read, write}
-use Rattle.model.specs.Map.{pageAt, base, Seat, flag, mine, common, status, blank, seat}
-use Rattle.model.specs.Refusals.{readRows, sampleRows, resetRows}
+use Rattle.laws.specs.Words.{ℕ, _+_, _<_, _≡_, Bool, true, false, Option, none, some, List, length, if_then_else_, noneOf, bit, has, at}
+use Rattle.ports.specs.Demands
+unfoldable pub use Rattle.ports.specs.Demands.{only}
+pub use Rattle.model.specs.Ports.{isBy, concerns, isReset}
+use Rattle.model.specs.Ports.{Port, caller, reset, sample, read, write}
+use Rattle.model.specs.Map.{paged, stateSize, pageAt, base, supported, Seat, flag, mine, common, status, blank, seat}
+use Rattle.model.specs.Reset.{resetRows}
 use Rattle.model.specs.Samples.{conds}
-use Rattle.model.specs.Reading.{seen, shared}
-use Rattle.model.specs.Writing.{Class, classOf}
-use Rattle.model.specs.Interrupt.{Pair, pairs}
-use Rattle.model.specs.Calls.{Answer, answerWith, Calls, start, _▷_, _▷▷_}
-use Rattle.model.specs.Bytes.{stateOf, answerOf, runs}
-
--- ---- who made a call
-
--- the call of port number n is p's
-abbrev pub isBy : Port → ℕ → Bool
-isBy p n = not (nobody n) && same (caller n) p
-
--- a call of port p, a sample or a reset
-abbrev pub concerns : Port → Call → Bool
-concerns p (reset img) = true
-concerns p (sample x) = true
-concerns p (read n a k out) = isBy p n
-concerns p (write n a vs) = isBy p n
-
--- the history with all other calls left out
-unfoldable pub only : Port → Calls → Calls
-only p start = start
-only p (h ▷ c) = if concerns p c then only p h ▷ c else only p h
-
-abbrev pub isReset : Call → Bool
-isReset (reset img) = true
-isReset (sample x) = false
-isReset (read n a k out) = false
-isReset (write n a vs) = false
+use Rattle.model.specs.Writing.{Class, page, classOf, reaches}
+use Rattle.model.specs.Readout.{limit}
+use Rattle.model.specs.Module.{document01}
+use Rattle.model.specs.Calls.{Calls, start, _▷_}
+use Rattle.model.specs.Bytes.{stateOf, after}
 
 -- ---- demand 2, flags: with no state in it
-
--- an accepted reset, or an accepted read by port p that includes byte b
-unfoldable pub wipes : Port → ℕ → Call → Bool
-wipes p b (reset img) = noneOf (resetRows img)
-wipes p b (sample x) = false
-wipes p b (read n a k out) = noneOf (readRows a k (length out)) && (isBy p n && covers a k b)
-wipes p b (write n a vs) = false
-
-abbrev pub noneWipes : Port → ℕ → List Call → Bool
-noneWipes p b [] = true
-noneWipes p b (c ∷ cs) = not (wipes p b c) && noneWipes p b cs
 
 -- the factory image of the last accepted reset; img is that of a reset before the history
 unfoldable pub imageOf : List ℕ → Calls → List ℕ
@@ -57,27 +25,13 @@ imageOf img (h ▷ sample x) = imageOf img h
 imageOf img (h ▷ read n a k out) = imageOf img h
 imageOf img (h ▷ write n a vs) = imageOf img h
 
--- The condition of bit j of flag byte b "stood in an accepted sample since the later of that port's last accepted read of that byte
--- and the last accepted reset": the history is older calls, that sample, and newer calls, none of them such a read or reset.
-pub record Since (img : List ℕ) (p : Port) (b j : ℕ) (h : Calls) : Type 0 where
-  pub older : Calls
-  pub x : List ℕ
-  pub newer : List Call
-  pub whole : h ≡ (older ▷ sample x) ▷▷ newer
-  pub taken : noneOf (sampleRows x) ≡ true
-  pub stood : bit j (conds (at (imageOf img older)) x b) ≡ 1
-  pub kept : noneWipes p b newer ≡ true
+-- in the sample x, after older calls, the condition of bit j of flag byte b stands
+abbrev pub stood : List ℕ → ℕ → ℕ → Calls → List ℕ → Bool
+stood img b j older x = has j (conds (at (imageOf img older)) x b)
 
--- ---- demand 2, the interrupt
-
--- "a raised flag is unmasked": bit j of a flag byte is 1, and that of its mask byte is 0
-pub record Unmasked (o : Places) : Type 0 where
-  pub pair : Pair
-  pub among : List·Memᴰ pair pairs
-  pub j : ℕ
-  pub small : j < 8
-  pub up : bit j (o (pair .flagByte)) ≡ 1
-  pub unheld : bit j (o (pair .maskByte)) ≡ 0
+-- it "stood in an accepted sample since the later of that port's last accepted read of that byte and the last accepted reset"
+abbrev pub Since : List ℕ → Port → ℕ → ℕ → Calls → Type 0
+Since img p b j h = Demands.StoodSince document01 (stood img b j) p b h
 
 -- ---- demand 2, writes
 
@@ -97,37 +51,21 @@ Leads s n a i = placeOf (caller n) (seat (stateOf s .own (caller n) pageAt) a) �
 abbrev pub classAt : List ℕ → ℕ → ℕ → Class
 classAt s n a = classOf (caller n) (seat (stateOf s .own (caller n) pageAt) a)
 
--- ---- demand 3
+-- "A write changes the writable bits it addresses and nothing else."
+pub record WriteRule (s : List ℕ) (n a : ℕ) (vs : List ℕ) : Type 0 where
+  -- each addressed byte: its writable bits take the written value, its other bits stay
+  pub bits : (k i j : ℕ) → k < length vs → Leads s n (a + k) i → (classAt s n (a + k) ≡ page → supported (stateOf s .mem) (at vs k) ≡ true)
+      → bit j (at (after s (write n a vs)) i) ≡ (if reaches (classAt s n (a + k)) j then bit j (at vs k) else bit j (at s i))
+  -- "A page number that isn't supported, written to 127, selects 00h"
+  pub unsupported : (k i : ℕ) → k < length vs → Leads s n (a + k) i → classAt s n (a + k) ≡ page → supported (stateOf s .mem) (at vs k) ≡ false
+      → at (after s (write n a vs)) i ≡ 0
+  -- every other byte of the state stays
+  pub elsewhere : (i : ℕ) → i < stateSize → ((k : ℕ) → k < length vs → Leads s n (a + k) i → ⊥) → at (after s (write n a vs)) i ≡ at s i
 
--- memory that the other port may write: none for the operator, the shared list for the recorder
-abbrev pub foreignTo : Port → ℕ → Bool
-foreignTo operator i = false
-foreignTo recorder i = shared i
+-- ---- what lasts
 
-abbrev pub hidden : Port → Seat → Bool
-hidden p (flag k) = false
-hidden p (mine k) = false
-hidden p (common i) = foreignTo p i
-hidden p status = false
-hidden p blank = false
-
--- what address a reads for port p, "save bytes on document 01's shared list": those are shown as 0
-unfoldable pub veiled : State → Port → ℕ → ℕ
-veiled m p a = if hidden p (seat (m .own p pageAt) a) then 0 else seen (m .mem) (m .own p) a
-
--- the answer, its bytes so veiled
-unfoldable pub told : Port → State → Call → Answer
-told p m c = answerWith m p (veiled m p) c
-
--- what is said in a history of calls on the bytes, by port p's own calls, the samples and the resets; the newest first
-unfoldable pub heard : Port → (List ℕ → Call → Answer) → List ℕ → Calls → List Answer
-heard p say s start = []
-heard p say s (h ▷ c) = if concerns p c then say (runs s h) c ∷ heard p say s h else heard p say s h
-
--- all that port p is told
-abbrev pub tells : Port → List ℕ → Calls → List Answer
-tells p s h = heard p (λ t c. told p (stateOf t) c) s h
-
--- all that the operator is answered
-abbrev pub answers : List ℕ → Calls → List Answer
-answers s h = heard operator (λ t c. answerOf t operator c) s h
+-- the supported pages, the limits and byte 220 say the same
+pub record SaysTheSame (s t : List ℕ) : Type 0 where
+  pub pages-same : (g : ℕ) → supported (stateOf s .mem) g ≡ supported (stateOf t .mem) g
+  pub limits-same : (q w : ℕ) → w < 4 → limit (stateOf s .mem) q w ≡ limit (stateOf t .mem) q w
+  pub offer-same : at s (paged 0 220) ≡ at t (paged 0 220)

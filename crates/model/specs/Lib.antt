@@ -1,13 +1,16 @@
 pub mod Ports
 pub mod Map
-pub mod Refusals
 pub mod Reset
 pub mod Samples
 pub mod Reading
 pub mod Writing
 pub mod Interrupt
 pub mod Readout
+pub mod Module
+pub mod Refusals
 pub mod Calls
 pub mod Bytes
 pub mod Demands
 pub mod Contracts
+pub mod Stories
+pub mod Marked

@@ -33,51 +33,19 @@ memorySize = paged 4 pageSize
 abbrev pub statusAt : ℕ
 statusAt = 2
 
--- lower 22 to 57: where samples are stored
-abbrev pub monitors : Run
-monitors = 22 to 57
-
--- page 00h byte 195: bit 6 page 01h, bit 7 page 02h
-abbrev pub optionsAt : ℕ
-optionsAt = paged 0 195
-
 -- ---- a record's 24 bytes
 
 -- "the flags of lower bytes 3 to 14"
 abbrev pub flags : Run
 flags = 3 to 14
 
--- of which byte 6 is the temperature's, 7 the supply's, 8 nobody's, 9 to 14 the channels'
-abbrev pub temperatureFlags : ℕ
-temperatureFlags = 6
-
-abbrev pub supplyFlags : ℕ
-supplyFlags = 7
-
-abbrev pub vendorFlags : ℕ
-vendorFlags = 8
-
-abbrev pub channelFlags : Run
-channelFlags = 9 to 14
-
 -- "the masks at lower 100 to 104"
 abbrev pub lowMasks : Run
 lowMasks = 100 to 104
 
--- of which 103 serves byte 6, and 104 byte 7
-abbrev pub temperatureMask : ℕ
-temperatureMask = 103
-
-abbrev pub supplyMask : ℕ
-supplyMask = 104
-
 -- "the masks at page 03h 242 to 247"
 abbrev pub highMasks : Run
 highMasks = 242 to 247
-
--- where the selected page is written and read
-abbrev pub selectAt : ℕ
-selectAt = 127
 
 -- where these stand in a record: the flags at 0 to 11, the masks at 12 to 16 and 17 to 22, the page at 23
 abbrev pub flagOf : ℕ → ℕ
@@ -114,18 +82,14 @@ pub data Seat : Type 0 where
   status : Seat  -- lower byte 2
   blank : Seat  -- no place
 
--- "119 to 126 read 0"
-abbrev pub blanks : Run
-blanks = 119 to 126
-
 -- address a, with page g selected: "0 to 127 are lower memory; 128 to 255 lie in the port's selected page", and "Bytes 3 to 14,
--- 100 to 104, 127 and page 03h 242 to 247 come from the port's own record"
+-- 100 to 104, 127 and page 03h 242 to 247 come from the port's own record"; "119 to 126 read 0"
 unfoldable pub seat : ℕ → ℕ → Seat
 seat g a =
     if within flags a then flag (flagOf a)
     else (if within lowMasks a then mine (lowMaskOf a)
-    else (if eqb a selectAt then mine pageAt
-    else (if within blanks a then blank
+    else (if eqb a 127 then mine pageAt
+    else (if within (119 to 126) a then blank
     else (if eqb a statusAt then status
     else (if ltb a pageSize then common a
     else (if eqb g 3 && within highMasks a then mine (highMaskOf a)
@@ -137,18 +101,14 @@ seat g a =
 unfoldable pub supported : Places → ℕ → Bool
 supported mem g =
     eqb g 0
-    || (not (has 2 (mem statusAt)) && (eqb g 3 || ((eqb g 1 && has 6 (mem optionsAt)) || (eqb g 2 && has 7 (mem optionsAt)))))
-
--- bits 3 to 0 are 0
-abbrev pub lowClear : ℕ → Bool
-lowClear n = eqb (n % 16) 0
+    || (not (has 2 (mem statusAt)) && (eqb g 3 || ((eqb g 1 && has 6 (mem (paged 0 195))) || (eqb g 2 && has 7 (mem (paged 0 195))))))
 
 -- "the flags for byte 8 are 0, and bits 3 to 0 are 0 in the flags of bytes 6 and 7 and in the masks 103 and 104"
 unfoldable pub tidy : Places → Bool
 tidy o =
-    eqb (o (flagOf vendorFlags)) 0
-    && (lowClear (o (flagOf temperatureFlags)) && (lowClear (o (flagOf supplyFlags))
-    && (lowClear (o (lowMaskOf temperatureMask)) && lowClear (o (lowMaskOf supplyMask)))))
+    eqb (o (flagOf 8)) 0
+    && (eqb (o (flagOf 6) % 16) 0 && (eqb (o (flagOf 7) % 16) 0
+    && (eqb (o (lowMaskOf 103) % 16) 0 && eqb (o (lowMaskOf 104) % 16) 0)))
 
 -- "A record is sound if its page is supported, .."
 unfoldable pub sound : Places → Places → Bool

@@ -1,6 +1,6 @@
 -- Document 01, "Reading": what each address reads, what a read clears, and the shared list.
 -- Assumes nothing.
-use Rattle.laws.specs.Words.{ℕ, _+_, _*_, Bool, not, _&&_, _||_, ltb, eqb, if_then_else_, one, Run, _to_, covers, within, bit}
+use Rattle.laws.specs.Words.{ℕ, _+_, _*_, Bool, false, not, _&&_, _||_, ltb, eqb, if_then_else_, one, _to_, covers, within, bit}
 use Rattle.model.specs.Ports.{Places}
 use Rattle.model.specs.Map.{inPage, statusAt, flags, pageAt, Seat, flag, mine, common, status, blank, seat}
 use Rattle.model.specs.Reset.{inPage02}
@@ -26,26 +26,17 @@ seen mem o a = look mem o (seat (o pageAt) a)
 unfoldable pub cleared : ℕ → ℕ → Places → Places
 cleared a n o k = if ltb k (flags .many) && covers a n (flags .first + k) then 0 else o k
 
--- ---- the shared list: "both see it, the operator alone writes it"
-
--- lower 86 (Tx disable), 87 and 88 (rate select), 93 (power), 98 (CDR control)
-abbrev pub disableAt : ℕ
-disableAt = 86
-
-abbrev pub rateAt : Run
-rateAt = 87 to 88
-
-abbrev pub powerAt : ℕ
-powerAt = 93
-
-abbrev pub cdrAt : ℕ
-cdrAt = 98
-
--- "page 03h 234 to 241"
-abbrev pub controls : Run
-controls = 234 to 241
+-- ---- the shared list: "both see it, the operator alone writes it": lower 86, 87, 88, 93, 98, page 02h, page 03h 234 to 241
 
 unfoldable pub shared : ℕ → Bool
 shared i =
-    eqb i disableAt || (within rateAt i || (eqb i powerAt || (eqb i cdrAt
-    || (inPage02 i || inPage 3 controls i))))
+    eqb i 86 || (within (87 to 88) i || (eqb i 93 || (eqb i 98
+    || (inPage02 i || inPage 3 (234 to 241) i))))
+
+-- an address leads there
+abbrev pub isShared : Seat → Bool
+isShared (flag k) = false
+isShared (mine k) = false
+isShared (common i) = shared i
+isShared status = false
+isShared blank = false

@@ -19,10 +19,6 @@ fields = 148 to 163 ∷ 165 to 167 ∷ 168 to 183 ∷ 184 to 185 ∷ 196 to 211 
 abbrev pub fieldRun : ℕ → Run
 fieldRun f = getD fields (f - 1) (pageSize to pageSize)
 
--- "the OUI whole"
-abbrev pub ouiField : ℕ
-ouiField = 2
-
 -- "A sound live page is used, else the factory one"
 abbrev pub pageUsed : List ℕ → List ℕ → List ℕ
 pageUsed live factory = if soundPage live then live else factory
@@ -37,7 +33,7 @@ trimmed page a zero = 0
 trimmed page a (suc n) = if eqb (at page (a + n)) 0x20 then trimmed page a n else suc n
 
 abbrev pub fieldLength : List ℕ → ℕ → ℕ
-fieldLength page f = if eqb f ouiField then fieldRun f .many else trimmed page (fieldStart f) (fieldRun f .many)
+fieldLength page f = if eqb f 2 then fieldRun f .many else trimmed page (fieldStart f) (fieldRun f .many)
 
 -- "The field is handed back as a part of the page it came from"
 abbrev pub fieldOf : List ℕ → ℕ → List ℕ
@@ -75,7 +71,7 @@ monitored n (q ∷ qs) = if covers (q .number) (q .channels) n then q else monit
 
 -- its number is where a sample stored it
 abbrev pub monitorAt : Quantity → ℕ → ℕ
-monitorAt q n = q .stored + 2 * (n - q .number)
+monitorAt q n = q .storedFrom + 2 * (n - q .number)
 
 -- "the last exactly while Data_Not_Ready is 1 or for Tx power that byte 220 doesn't offer"
 abbrev pub monitorOf : Places → Quantity → ℕ → Measured

@@ -1,7 +1,7 @@
 -- Document 01, "Reset": the check codes, and the memory after an accepted reset.
 -- Assumes nothing.
-use Rattle.laws.specs.Words.{ℕ, _+_, _-_, _*_, _%_, Bool, _&&_, _||_, List, eqb, if_then_else_, Run, _to_, within, bit, at, part, sum}
-use Rattle.model.specs.Map.{pageSize, inPage, statusAt, monitors, flags, lowMasks, highMasks, blanks, selectAt}
+use Rattle.laws.specs.Words.{ℕ, _+_, _-_, _*_, _%_, Bool, not, _&&_, _||_, List, [], _∷_, length, eqb, if_then_else_, Row, Run, _to_, within, bit, at, part, sum}
+use Rattle.model.specs.Map.{pageSize, memorySize, inPage, statusAt}
 
 -- ---- check codes
 
@@ -21,20 +21,19 @@ codeRight page r = eqb (at page (r .first + r .many - pageSize)) (checkCode (pag
 unfoldable pub codesRight : List ℕ → Bool
 codesRight page = codeRight page (pageSize to 190) && codeRight page (192 to 222)
 
--- page 00h of a factory image
-abbrev pub imagePage : List ℕ → List ℕ
-imagePage img = part pageSize pageSize img
+-- 9: "the factory image isn't 640 bytes"; 10: "a check code of the factory image is wrong", in its page 00h
+abbrev pub resetRows : List ℕ → List Row
+resetRows img = (9, not (eqb (length img) memorySize)) ∷ (10, not (codesRight (part pageSize pageSize img))) ∷ []
 
 -- ---- after an accepted reset
 
 -- "lower 3 to 14, 22 to 57, 100 to 104, 119 to 127 and page 03h 242 to 247 are 0"
 unfoldable pub emptied : ℕ → Bool
 emptied i =
-    within flags i || (within monitors i || (within lowMasks i || (within blanks i || (eqb i selectAt
-    || inPage 3 highMasks i))))
+    within (3 to 14) i || (within (22 to 57) i || (within (100 to 104) i || (within (119 to 127) i || inPage 3 (242 to 247) i)))
 
 abbrev pub inPage02 : ℕ → Bool
-inPage02 i = inPage 2 (record { first = pageSize; many = pageSize }) i
+inPage02 i = inPage 2 (128 to 255) i
 
 -- what stands at place i where `old` stood: "the factory image, except: page 02h keeps its old bytes; lower byte 2 is the
 -- factory's bit 2 with bit 0 (Data_Not_Ready) set and all else 0; .."

@@ -2,7 +2,7 @@
 -- Assumes nothing.
 use Rattle.laws.specs.Words.{ℕ, suc, _+_, _-_, _*_, _/_, _%_, Bool, true, false, not, _&&_, _||_, List, [], _∷_, bitOr, ltb, eqb, ℤ, pos, negsuc, ltZ, if_then_else_, one, covers, has, at}
 use Rattle.model.specs.Ports.{Places}
-use Rattle.model.specs.Map.{paged, statusAt, monitors, flags, temperatureFlags, supplyFlags, channelFlags}
+use Rattle.model.specs.Map.{paged, statusAt, flags}
 
 -- ---- numbers
 
@@ -29,8 +29,8 @@ value milliamperes n = pos n
 pub record Quantity : Type 0 where
   pub number : ℕ  -- its first number, in sample order
   pub channels : ℕ  -- how many numbers it has
-  pub stored : ℕ  -- where a sample stores them in lower memory
-  pub limits : ℕ  -- where its thresholds stand in page 03h
+  pub storedFrom : ℕ  -- where a sample stores them in lower memory
+  pub limitsFrom : ℕ  -- where its thresholds stand in page 03h
   pub flagged : ℕ  -- its first flag byte
   pub optional : Bool  -- there only if byte 220 offers it
   pub kind : Kind
@@ -39,36 +39,30 @@ pub record Quantity : Type 0 where
 -- 50-57"; thresholds "temperature at 128, supply at 144, Rx power at 176, Tx bias at 184, Tx power at 192"; flags "bytes 9 and 10 Rx
 -- power, 11 and 12 Tx bias, 13 and 14 Tx power"
 abbrev pub temperature : Quantity
-temperature = record { number = 0; channels = 1; stored = monitors .first; limits = 128; flagged = temperatureFlags; optional = false; kind = degrees }
+temperature = record { number = 0; channels = 1; storedFrom = 22; limitsFrom = 128; flagged = 6; optional = false; kind = degrees }
 
 abbrev pub supply : Quantity
-supply = record { number = 1; channels = 1; stored = 26; limits = 144; flagged = supplyFlags; optional = false; kind = volts }
+supply = record { number = 1; channels = 1; storedFrom = 26; limitsFrom = 144; flagged = 7; optional = false; kind = volts }
 
 abbrev pub rxPower : Quantity
-rxPower = record { number = 2; channels = 4; stored = 34; limits = 176; flagged = channelFlags .first; optional = false; kind = milliwatts }
+rxPower = record { number = 2; channels = 4; storedFrom = 34; limitsFrom = 176; flagged = 9; optional = false; kind = milliwatts }
 
 abbrev pub txBias : Quantity
-txBias = record { number = 6; channels = 4; stored = 42; limits = 184; flagged = 11; optional = false; kind = milliamperes }
+txBias = record { number = 6; channels = 4; storedFrom = 42; limitsFrom = 184; flagged = 11; optional = false; kind = milliamperes }
 
 abbrev pub txPower : Quantity
-txPower = record { number = 10; channels = 4; stored = 50; limits = 192; flagged = 13; optional = true; kind = milliwatts }
+txPower = record { number = 10; channels = 4; storedFrom = 50; limitsFrom = 192; flagged = 13; optional = true; kind = milliwatts }
 
 abbrev pub quantities : List Quantity
 quantities = temperature ∷ supply ∷ rxPower ∷ txBias ∷ txPower ∷ []
 
--- "three status bytes .., then 14 numbers of two bytes": 31 bytes
-abbrev pub statusBytes : ℕ
-statusBytes = 3
-
-abbrev pub numbers : ℕ
-numbers = 14
-
+-- "three status bytes .., then 14 numbers of two bytes"
 abbrev pub sampleSize : ℕ
-sampleSize = statusBytes + 2 * numbers
+sampleSize = 3 + 2 * 14
 
 -- number j of a sample
 abbrev pub numberOf : List ℕ → ℕ → ℕ
-numberOf x j = word (at x) (statusBytes + 2 * j)
+numberOf x j = word (at x) (3 + 2 * j)
 
 -- "If bit 2 of page 00h byte 220 is 0 .. Tx power has no conditions"
 abbrev pub offered : Places → Quantity → Bool
@@ -78,7 +72,7 @@ offered mem q = not (q .optional) || has 2 (mem (paged 0 220))
 
 -- threshold w of a quantity: 0 high alarm, 1 low alarm, 2 high warning, 3 low warning
 abbrev pub threshold : Places → Quantity → ℕ → ℕ
-threshold mem q w = word mem (paged 3 (q .limits + 2 * w))
+threshold mem q w = word mem (paged 3 (q .limitsFrom + 2 * w))
 
 abbrev pub limitOf : Places → Quantity → ℕ → ℤ
 limitOf mem q w = value (q .kind) (threshold mem q w)
@@ -97,18 +91,18 @@ unfoldable pub conditions : Places → List ℕ → Quantity → ℕ → ℕ
 conditions mem x q c = if ltb c (q .channels) then fourOf (value (q .kind) (sampled x q c)) (limitOf mem q) else 0
 
 -- "odd channel in bits 7 to 4, even channel in 3 to 0": flag byte j (from 0) of a quantity
-abbrev pub flagByte : Places → List ℕ → Quantity → ℕ → ℕ
-flagByte mem x q j = 16 * conditions mem x q (2 * j) + conditions mem x q (2 * j + 1)
+abbrev pub conditionByte : Places → List ℕ → Quantity → ℕ → ℕ
+conditionByte mem x q j = 16 * conditions mem x q (2 * j) + conditions mem x q (2 * j + 1)
 
 -- the conditions of flag byte b that the quantities have
 abbrev pub measuredAt : Places → List ℕ → ℕ → List Quantity → ℕ
 measuredAt mem x b [] = 0
 measuredAt mem x b (q ∷ qs) =
-    if covers (q .flagged) (suc (q .channels) / 2) b && offered mem q then flagByte mem x q (b - q .flagged) else measuredAt mem x b qs
+    if covers (q .flagged) (suc (q .channels) / 2) b && offered mem q then conditionByte mem x q (b - q .flagged) else measuredAt mem x b qs
 
 -- the conditions of flag byte b: "three status bytes (for flag bytes 3, 4, 5, same bits)", then those of the numbers
 unfoldable pub conds : Places → List ℕ → ℕ → ℕ
-conds mem x b = if covers (flags .first) statusBytes b then at x (b - flags .first) else measuredAt mem x b quantities
+conds mem x b = if covers (flags .first) 3 b then at x (b - flags .first) else measuredAt mem x b quantities
 
 -- ---- after an accepted sample
 
@@ -116,7 +110,7 @@ conds mem x b = if covers (flags .first) statusBytes b then at x (b - flags .fir
 abbrev pub storedOf : Places → List ℕ → List Quantity → ℕ → ℕ → ℕ
 storedOf mem x [] i old = old
 storedOf mem x (q ∷ qs) i old =
-    if covers (q .stored) (2 * q .channels) i && offered mem q then at x (statusBytes + 2 * q .number + (i - q .stored)) else storedOf mem x qs i old
+    if covers (q .storedFrom) (2 * q .channels) i && offered mem q then at x (3 + 2 * q .number + (i - q .storedFrom)) else storedOf mem x qs i old
 
 -- "They are stored .., and bit 0 of byte 2 becomes 0"
 unfoldable pub stored : Places → List ℕ → ℕ → ℕ → ℕ

@@ -3,7 +3,7 @@
 // Proved: each number is the one that specs/Packing.antt says.
 ghost use mathlib.Core.Path.{_≡_};
 ghost use Rattle.readout.specs.Meaning.{monitorSays, limitsSay};
-ghost use Rattle.packing.specs.Packing.{bits0, bits8, bits16, bits24, refusalIn, kindIn, valueIn, limitIn};
+ghost use Rattle.packing.specs.Packing.{byteOf, refusalIn, kindIn, valueIn, limitIn};
 use readout::Limited;
 use readout::Monitored;
 use record::Answer;
@@ -13,21 +13,21 @@ use record::Answers;
 
 // Four bytes in one number, the first in bits 0 to 7.
 pub fn packed(first: u8, second: u8, third: u8, fourth: u8) -> u32
-    ensures { λ r. ⌜ (bits0 r ≡ first) × (bits8 r ≡ second) × (bits16 r ≡ third) × (bits24 r ≡ fourth) ⌝ }
+    ensures { λ r. ⌜ (byteOf 0 r ≡ first) × (byteOf 1 r ≡ second) × (byteOf 2 r ≡ third) × (byteOf 3 r ≡ fourth) ⌝ }
 {
     first as u32 + 256 * (second as u32) + 65536 * (third as u32) + 16777216 * (fourth as u32)
 }
 
 // Of a reset or a sample: the refusal, the operator's count, the recorder's.
 pub fn report(a: Answers) -> u32
-    ensures { λ r. ⌜ (bits0 r ≡ a .refusal) × (bits8 r ≡ a .operator) × (bits16 r ≡ a .recorder) × (bits24 r ≡ 0) ⌝ }
+    ensures { λ r. ⌜ (byteOf 0 r ≡ a .refusal) × (byteOf 1 r ≡ a .operator) × (byteOf 2 r ≡ a .recorder) × (byteOf 3 r ≡ 0) ⌝ }
 {
     packed(a.refusal, a.operator, a.recorder, 0)
 }
 
 // Of a read or a write: the refusal, the calling port's count.
 pub fn answer(a: Answer) -> u32
-    ensures { λ r. ⌜ (bits0 r ≡ a .refusal) × (bits8 r ≡ a .count) × (bits16 r ≡ 0) × (bits24 r ≡ 0) ⌝ }
+    ensures { λ r. ⌜ (byteOf 0 r ≡ a .refusal) × (byteOf 1 r ≡ a .count) × (byteOf 2 r ≡ 0) × (byteOf 3 r ≡ 0) ⌝ }
 {
     packed(a.refusal, a.count, 0, 0)
 }

@@ -15,13 +15,12 @@ use Rattle.laws.specs.Tests.{if_then_else_}
 use Rattle.laws.specs.Lists.{part}
 use Rattle.laws.proofs.Tests.{case}
 use Rattle.block.specs.Block.{sampleSize, Bytes}
-use Rattle.log.specs.Log.{blocks, samples, total, afterPowerUp, afterAdd, usedAfter}
-use Rattle.log.specs.Contracts.{addRefusal, powerUpRefusal, Added, Opened, Placed, Shown}
+use Rattle.log.specs.Log.{blocks, samples, total, afterPowerUp, afterAdd, usedAfter, Fit}
+use Rattle.log.specs.Contracts.{addRefusal, powerUpRefusal, Added, Opened, Placed, Shown, Known}
 use Rattle.question.specs.Search.{lit, orElse, firstIn, refused, given, firstTold}
-use Rattle.log.proofs.Fits.{Fit}
-use Rattle.log.proofs.Calls.{add-taken, add-sound, add-samples, power-up-taken, power-up-sound, power-up-samples}
+use Rattle.log.proofs.PowerUps.{power-up-taken, power-up-sound, power-up-samples}
+use Rattle.log.proofs.Adds.{add-taken, add-sound, add-samples}
 use Rattle.log.proofs.Positions.{sample-taken, sample-placed}
-use Rattle.log.proofs.Kept.{Known}
 use Rattle.question.proofs.Search.{first-is, first-only, first-append, search-reads}
 use Rattle.question.proofs.Least.{sound-crowded}
 use Rattle.question.proofs.Told.{first-given}
@@ -86,7 +85,7 @@ first-more k xs x = first-append k xs (x ∷ []) ∙ ap (orElse (firstIn k xs)) 
     (λ t. let z : length xs + 0 ≡ length xs = omega arith in rw (t, z))
     (λ t. rw t))
 
-module _ {log x u : List ℕ} {used r a : ℕ} (k : ℕ) (bytes : Bytes log) (d : Added log used x r a u) (taken : r ≡ 0) where
+module _ (log : List ℕ) (used : ℕ) (x : List ℕ) {r a : ℕ} {u : List ℕ} (k : ℕ) (bytes : Bytes log) (d : Added log used x r a u) (taken : r ≡ 0) where
   accepted : addRefusal log used x ≡ 0
   accepted = sym (d .refusal-is) ∙ taken
 
@@ -107,8 +106,8 @@ module _ {log x u : List ℕ} {used r a : ℕ} (k : ℕ) (bytes : Bytes log) (d 
   first-comes e = first-added e
 
 -- a power-up changes no answer
-pub first-powered : {log u : List ℕ} {used r a : ℕ} (k : ℕ) → Bytes log → Opened log used r a u → r ≡ 0 → firstTold u a k ≡ firstTold log used k
-first-powered {log} {u} {used} {r} {a} k bytes d taken =
+pub first-powered : (log : List ℕ) (used : ℕ) {r a : ℕ} {u : List ℕ} (k : ℕ) → Bytes log → Opened log used r a u → r ≡ 0 → firstTold u a k ≡ firstTold log used k
+first-powered log used k bytes d taken =
     let accepted : powerUpRefusal log used ≡ 0 = sym (d .refusal-is) ∙ taken in
     let (was, free) = power-up-taken log used accepted in
     rw (d .log-is, d .used-is, accepted)
@@ -116,6 +115,6 @@ first-powered {log} {u} {used} {r} {a} k bytes d taken =
     ∙ ap (λ xs. if ltb 23 k then refused 17 else given (firstIn k xs)) (power-up-samples log used bytes was free)
     ∙ sym (first-reads log used k was))
 
--- over any series of calls on a log from its beginning: the first of the accepted samples that has the bit
-pub kept-first : {xs : List (List ℕ)} {t : List ℕ} {n : ℕ} → Known xs t n → (k : ℕ) → firstTold t n k ≡ (if ltb 23 k then refused 17 else given (firstIn k xs))
-kept-first {xs} {t} {n} known k = first-reads t n k (known .fit) ∙ ap (λ l. if ltb 23 k then refused 17 else given (firstIn k l)) (known .samples-are)
+-- over any series of calls on a sound log: the first of its samples and the accepted ones that has the bit
+pub kept-first : {log : List ℕ} {from : ℕ} {xs : List (List ℕ)} {t : List ℕ} {n : ℕ} → Known log from xs t n → (k : ℕ) → firstTold t n k ≡ (if ltb 23 k then refused 17 else given (firstIn k xs))
+kept-first {t = t} {n = n} known k = first-reads t n k (known .fit) ∙ ap (λ l. if ltb 23 k then refused 17 else given (firstIn k l)) (known .samples-are)

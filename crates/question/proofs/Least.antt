@@ -5,7 +5,7 @@ use mathlib.Core.Path.{_≡_, refl, sym, ap, _∙_}
 use mathlib.Core.Bool.{true, false}
 use mathlib.Core.List.{List, []}
 use mathlib.Core.Option.{Option, none, some}
-use Prim.Native.Nat.{ℕ, zero, suc, _+_, _-_, _*_, _≤_, _<_}
+use Prim.Native.Nat.{ℕ, zero, suc, _-_, _*_, _≤_, _<_}
 use native.Mathlib.Omega.{arith}
 use lib.Dec.{ltb, eqb}
 use lib.ListN.{length, getD}
@@ -14,11 +14,11 @@ use Rattle.laws.specs.Lists.{at, part}
 use Rattle.laws.proofs.Tests.{case, not-both, or-left, or-right}
 use Rattle.block.specs.Block.{blockSize, sampleSize, count, mostSamples, slot, samplesIn}
 use Rattle.log.specs.Log.{block, sound, samples, total, misfit}
-use Rattle.question.specs.Search.{lit, further, orElse, firstIn, passed, firstOfBlock, firstWith, crowded, misshapen}
+use Rattle.question.specs.Search.{lit, further, orElse, firstIn, passed, firstOfBlock, firstWith, crowded, misshapen, FirstIs, Hit, Least}
 use Rattle.block.proofs.Blocks.{sound-count, samples-length, samples-at}
 use Rattle.log.proofs.Logs.{sound-less, sound-block, total-more}
 use Rattle.log.proofs.Fits.{fitting}
-use Rattle.question.proofs.Search.{FirstIs, first-is}
+use Rattle.question.proofs.Search.{first-is}
 
 -- ---- counts
 
@@ -60,19 +60,6 @@ sound-crowded log (suc n) s =
     rw (sound-crowded log n (sound-less log n (suc n) (omega arith) s), le-ltb mostSamples (count (block log n)) (sound-count (block log n) (sound-block log (suc n) n (omega arith) s)))
 
 -- ---- any log, sound or not
-
--- sample i of used block n is looked at, and has the bit
-pub record Hit (log : List ℕ) (used k n i : ℕ) : Type 0 where
-  pub used-block : n < used
-  pub sample-there : i < count (block log n)
-  pub looked-at : passed k (block log n) ≡ false
-  pub has-it : lit k (part (slot i) sampleSize (block log n)) ≡ true
-
--- what an answer says of them: it is the position of one, and no other has a lower one; or there is none
-abbrev pub Least : List ℕ → ℕ → ℕ → Option ℕ → Type 0
-Least log used k none = (n i : ℕ) → Hit log used k n i → ⊥
-Least log used k (some p) =
-    ((n : ℕ) × (i : ℕ) × Hit log used k n i × (p ≡ total log n + i)) × ((n i : ℕ) → Hit log used k n i → p ≤ total log n + i)
 
 hit-later : {log : List ℕ} {n k m i : ℕ} → Hit log n k m i → Hit log (suc n) k m i
 hit-later h = record { used-block = let u = h .used-block in omega arith; sample-there = h .sample-there; looked-at = h .looked-at; has-it = h .has-it }

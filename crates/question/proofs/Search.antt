@@ -17,17 +17,12 @@ use Rattle.laws.proofs.Lists.{part-length, part-at}
 use Rattle.laws.proofs.Bits.{has-or}
 use Rattle.block.specs.Block.{blockSize, sampleSize, count, mostSamples, slot, roomEnd, samplesIn, anyTo, summary, holds, summed, checked, soundBlock}
 use Rattle.log.specs.Log.{blocks, block, sound, samples}
-use Rattle.question.specs.Search.{lit, further, orElse, firstIn, passed, firstOfBlock, firstWith}
+use Rattle.question.specs.Search.{lit, further, orElse, firstIn, passed, firstOfBlock, firstWith, FirstIs}
 use Rattle.block.proofs.Sealed.{holds-at}
 use Rattle.block.proofs.Blocks.{sound-count, sound-ended, samples-length, samples-at}
 use Rattle.log.proofs.Logs.{sound-less, sound-block}
 
 -- ---- a list of samples
-
--- what an answer says of the samples xs: the one there has the bit and none before it has, or none has it
-abbrev pub FirstIs : ℕ → List (List ℕ) → Option ℕ → Type 0
-FirstIs k xs none = (j : ℕ) → j < length xs → lit k (getD xs j []) ≡ false
-FirstIs k xs (some i) = (i < length xs) × (lit k (getD xs i []) ≡ true) × ((j : ℕ) → j < i → lit k (getD xs j []) ≡ false)
 
 module _ (k : ℕ) where
   first-next : (x : List ℕ) (xs : List (List ℕ)) (r : Option ℕ) → lit k x ≡ false → FirstIs k xs r → FirstIs k (x ∷ xs) (further 1 r)

@@ -1,19 +1,16 @@
 -- Document 02, Ask 9: examples, computed. What the question answers on a log of five blocks: one with a summary, one with no samples, an old one, one whose summary lies, and one with 2 in byte 504.
 -- Assumes nothing.
 use mathlib.Core.Path.{_≡_, refl}
-use mathlib.Core.List.{List, [], _∷_, _++_}
+use mathlib.Core.List.{[], _∷_, _++_}
 use mathlib.Core.Option.{none, some}
-use Prim.Native.Nat.{ℕ, _-_}
-use lib.ListN.{replicate}
+use Prim.Native.Nat.{_-_}
 use Rattle.block.specs.Block.{samplesTo}
-use Rattle.block.proofs.Examples.{summarised, empty, old, lying, marked2}
 use Rattle.log.specs.Log.{samples}
 use Rattle.question.specs.Search.{firstIn, firstWith, crowded, refused, given, firstTold}
+use Rattle.block.specs.Examples.{empty}
+use Rattle.question.specs.Examples.{recorded, counting}
 
 -- ---- the answers on a log
-
-abbrev pub recorded : List ℕ
-recorded = summarised ++ (empty ++ (old ++ (lying ++ marked2)))
 
 -- bits of the first byte and of the third, the lowest and the highest: the first sample that has it
 pub first-found : (firstTold recorded 5 0 ≡ given (some 1)) × (firstTold recorded 5 1 ≡ given (some 1)) × (firstTold recorded 5 23 ≡ given (some 0))
@@ -48,9 +45,6 @@ unfolding firstWith firstIn crowded samples samplesTo
 refused-each = (refl, refl, refl, refl)
 
 -- a block may be full, and an unused one may have any count; a used one's of 17 is refused, be it the first or the last
-abbrev pub counting : ℕ → List ℕ
-counting n = 0 ∷ 0 ∷ 0 ∷ 1 ∷ n ∷ replicate 507 0
-
 pub full-taken : (firstTold (counting 16) 1 0 ≡ given none) × (firstTold (empty ++ counting 17) 1 0 ≡ given none)
 unfolding firstWith firstIn crowded samples samplesTo
 full-taken = (refl, refl)

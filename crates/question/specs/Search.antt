@@ -1,7 +1,8 @@
 -- Document 02, Ask 9: "When did that line die?" The first sample of a log that has a status bit.
 -- Assumes nothing.
-use Rattle.laws.specs.Words.{ℕ, zero, suc, _+_, _/_, _%_, Bool, false, not, _&&_, _||_, List, [], _∷_, Option, none, some, eqb, ltb, if_then_else_, Row, firstOf, has, at}
-use Rattle.block.specs.Block.{count, mostSamples, roomEnd, markAt, samplesIn}
+use Rattle.laws.specs.Words.{ℕ, zero, suc, _+_, _/_, _%_, _<_, _≤_, _≡_, Bool, true, false, not, _&&_, _||_, List, [], _∷_, Option, none, some, length, getD, eqb, ltb, if_then_else_, Row, has, at, part}
+pub use Rattle.laws.specs.Words.{Told, refused, given, told}
+use Rattle.block.specs.Block.{sampleSize, count, mostSamples, slot, roomEnd, samplesIn}
 use Rattle.log.specs.Log.{block, total, misfit}
 
 -- ---- a status bit: "8 times the byte, 0 to 2, plus the bit"
@@ -30,7 +31,7 @@ firstIn k (x ∷ xs) = if lit k x then some 0 else further 1 (firstIn k xs)
 
 -- "A block with 1 in 504 whose 501 to 503 exclude the bit is passed over"
 abbrev pub passed : ℕ → List ℕ → Bool
-passed k b = eqb (at b markAt) 1 && not (has (k % 8) (at b (roomEnd + k / 8)))
+passed k b = eqb (at b 504) 1 && not (has (k % 8) (at b (roomEnd + k / 8)))
 
 -- "by its count alone": what its samples are makes no difference
 abbrev pub firstOfBlock : ℕ → List ℕ → Option ℕ
@@ -56,15 +57,27 @@ misshapen log used = misfit log used || crowded log used
 abbrev pub firstRows : List ℕ → ℕ → ℕ → List Row
 firstRows log used k = (15, misshapen log used) ∷ (17, ltb 23 k) ∷ []
 
-abbrev pub firstRefusal : List ℕ → ℕ → ℕ → ℕ
-firstRefusal log used k = firstOf (firstRows log used k)
+-- ---- the answer: a refusal, or the position, none where no sample that is looked at has the bit
 
--- ---- the answer
+abbrev pub firstTold : List ℕ → ℕ → ℕ → Told (Option ℕ)
+firstTold log used k = told (firstRows log used k) (firstWith log used k)
 
--- the number of a refusal; or the position, none where no sample that is looked at has the bit
-pub data Answer : Type 0 where
-  refused : ℕ → Answer
-  given : Option ℕ → Answer
+-- ---- what an answer says
 
-abbrev pub firstTold : List ℕ → ℕ → ℕ → Answer
-firstTold log used k = if eqb (firstRefusal log used k) 0 then given (firstWith log used k) else refused (firstRefusal log used k)
+-- what an answer says of the samples xs: the one there has the bit and none before it has, or none has it
+abbrev pub FirstIs : ℕ → List (List ℕ) → Option ℕ → Type 0
+FirstIs k xs none = (j : ℕ) → j < length xs → lit k (getD xs j []) ≡ false
+FirstIs k xs (some i) = (i < length xs) × (lit k (getD xs i []) ≡ true) × ((j : ℕ) → j < i → lit k (getD xs j []) ≡ false)
+
+-- sample i of used block n is looked at, and has the bit
+pub record Hit (log : List ℕ) (used k n i : ℕ) : Type 0 where
+  pub used-block : n < used
+  pub sample-there : i < count (block log n)
+  pub looked-at : passed k (block log n) ≡ false
+  pub has-it : lit k (part (slot i) sampleSize (block log n)) ≡ true
+
+-- what an answer says of them: it is the position of one, and no other has a lower one; or there is none
+abbrev pub Least : List ℕ → ℕ → ℕ → Option ℕ → Type 0
+Least log used k none = (n i : ℕ) → Hit log used k n i → ⊥
+Least log used k (some p) =
+    ((n : ℕ) × (i : ℕ) × Hit log used k n i × (p ≡ total log n + i)) × ((n i : ℕ) → Hit log used k n i → p ≤ total log n + i)

@@ -12,14 +12,17 @@ use Rattle.laws.specs.Lists.{at, patch}
 use Rattle.laws.proofs.Tests.{case, and-left, and-right}
 use Rattle.laws.proofs.Rows.{first-none}
 use Rattle.laws.proofs.Lists.{patch-length, patch-in, patch-below, patch-above}
+use Rattle.ports.specs.Bytes
+use Rattle.ports.specs.Effects
+use Rattle.ports.specs.Modules
 use Rattle.model.specs.Ports.{Port, operator, recorder, caller, Places, give, read}
 use Rattle.model.specs.Map.{recordSize, stateSize, base, pageAt, flags, sound}
-use Rattle.model.specs.Refusals.{rows}
 use Rattle.model.specs.Reading.{seen, cleared}
 use Rattle.model.specs.Interrupt.{count}
-use Rattle.model.specs.Calls.{done, answer}
+use Rattle.model.specs.Calls.{answer}
 use Rattle.model.specs.Bytes.{memoryOf, recordOf, stateOf, bytesOf, rowsOf, refusalOf}
 use Rattle.model.specs.Contracts.{ReadDone}
+use Rattle.model.proofs.Names.{rows, done}
 use Rattle.model.proofs.Bytes.{answer-long, base-fits, memory-at, record-at, bytes-by-part}
 use Rattle.model.proofs.Sound.{sound-page}
 use Rattle.model.proofs.Begun.{taken-size, taken-state}
@@ -33,7 +36,7 @@ pub record Taken (s : List ℕ) (b a k room : ℕ) : Type 0 where
   pub fits : k ≤ room
 
 pub read-taken : (s : List ℕ) (n a k : ℕ) (out : List ℕ) (b : ℕ) → refusalOf s (read n a k out) ≡ 0 → b ≡ base (caller n) → Taken s b a k (length out)
-unfolding refusalOf rowsOf rows stateOf
+unfolding Bytes.refusalOf Bytes.rowsOf Modules.rows Bytes.stateOf
 read-taken s n a k out b e is =
     let r = first-none (rowsOf s (read n a k out)) refl .0 e in
     let whole : sound (memoryOf s) (recordOf s (base (caller n))) ≡ true = search (and-left, and-right, not-true, not-false) in
@@ -78,14 +81,14 @@ record-bytes s q n f e few rest =
 
 module _ (s : List ℕ) (n a k : ℕ) (out : List ℕ) (taken : refusalOf s (read n a k out) ≡ 0) where
   read-bytes : patch (base (caller n)) (flags .many) (cleared a k (recordOf s (base (caller n)))) s ≡ bytesOf (done (stateOf s) (read n a k out))
-  unfolding done stateOf cleared
+  unfolding Effects.done Bytes.stateOf cleared
   read-bytes = record-bytes s (caller n) (flags .many) (cleared a k (recordOf s (base (caller n)))) (taken-size s (read n a k out) taken) (omega arith)
       (λ i l h. rw (le-ltb i (flags .many) l, lt-ltb i recordSize h))
 
   -- the caller's record is at b
   pub read-done : (b c : ℕ) (t shown : List ℕ) → b ≡ base (caller n) → t ≡ patch b (flags .many) (cleared a k (recordOf s b)) s
       → c ≡ count (recordOf t b) → shown ≡ patch 0 k (λ j. seen (memoryOf s) (recordOf s b) (a + j)) out → ReadDone s n a k out 0 c t shown
-  unfolding answer stateOf
+  unfolding Effects.answer Bytes.stateOf
   read-done b c t shown is e f g =
       let left = rw is at e ∙ read-bytes in
       record {

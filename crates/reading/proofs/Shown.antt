@@ -13,7 +13,7 @@ use Rattle.laws.specs.Lists.{at, patch}
 use Rattle.laws.proofs.Tests.{case, covers-in, covers-below, covers-true, covers-one}
 use Rattle.laws.proofs.Lists.{patch-same}
 use Rattle.laws.proofs.Fronts.{front-over, front-four, front-self, front-set}
-use Rattle.model.specs.Map.{pageSize, paged, memorySize, statusAt, flags, lowMasks, highMasks, selectAt, flagOf, lowMaskOf, highMaskOf, pageAt, recordSize, blanks, seat}
+use Rattle.model.specs.Map.{pageSize, paged, memorySize, statusAt, flags, lowMasks, highMasks, flagOf, lowMaskOf, highMaskOf, pageAt, recordSize, seat}
 use Rattle.model.specs.Reading.{statusByte, look, seen}
 use Rattle.model.specs.Bytes.{memoryOf, recordOf}
 use Rattle.address.specs.Meaning.{storedAt}
@@ -66,18 +66,18 @@ module _ (out : List ℕ) (a n : ℕ) (room : n ≤ length out) where
 
       -- what is the port's own in lower memory
       pub own-shown : (first masks page : ℕ) → first ≡ b → masks ≡ b + lowMaskOf (lowMasks .first) → page ≡ b + pageAt → {o₁ o₂ o₃ t : List ℕ}
-          → o₁ ≡ patch 0 n (λ j. if within blanks (a + j) then 0 else at out (0 + j)) out
-          → o₂ ≡ patch 0 n (λ j. copied s page (selectAt to selectAt) (a + j) (at o₁ (0 + j))) o₁
+          → o₁ ≡ patch 0 n (λ j. if within (119 to 126) (a + j) then 0 else at out (0 + j)) out
+          → o₂ ≡ patch 0 n (λ j. copied s page (127 to 127) (a + j) (at o₁ (0 + j))) o₁
           → o₃ ≡ patch 0 n (λ j. copied s masks lowMasks (a + j) (at o₂ (0 + j))) o₂
           → t ≡ patch 0 n (λ j. copied s first flags (a + j) (at o₃ (0 + j))) o₃
           → t ≡ patch 0 n (λ j. ownSeen (recordOf s b) (a + j) (at out j)) out
       own-shown first masks page p q r e₁ e₂ e₃ e₄ = front-four n out room e₁ e₂ e₃ e₄ (λ j l x₁ x₂ x₃.
           let i : ℕ = a + j in
           let z : 0 + j ≡ j = omega arith in
-          rw (z, x₃, z, x₂, z, x₁, z, ← covers-one selectAt i)
+          rw (z, x₃, z, x₂, z, x₁, z, ← covers-one 127 i)
           (own-byte flags first (flagOf i) i (λ u v. (omega arith, omega arith))
           (own-byte lowMasks masks (lowMaskOf i) i (λ u v. (omega arith, omega arith))
-          (own-byte (selectAt to selectAt) page pageAt i (λ u v. (omega arith, omega arith)) refl))))
+          (own-byte (127 to 127) page pageAt i (λ u v. (omega arith, omega arith)) refl))))
 
 -- ---- all together
 
@@ -90,7 +90,7 @@ module _ (s : List ℕ) (b page : ℕ) where
   layers-seen : page ≡ recordOf s b pageAt → page < 4 → (i : ℕ) → i < 256 → layers i ≡ seen (memoryOf s) (recordOf s b) i
   unfolding seen look seat
   layers-seen e l i h = rw (← e) (case (within flags i) (λ t. rw t) (λ f₁. case (within lowMasks i) (λ t. rw (f₁, t)) (λ f₂.
-      case (eqb i selectAt) (λ t. rw (f₁, f₂, t) e) (λ f₃. case (within blanks i) (λ t. rw (f₁, f₂, f₃, t)) (λ f₄.
+      case (eqb i 127) (λ t. rw (f₁, f₂, t) e) (λ f₃. case (within (119 to 126) i) (λ t. rw (f₁, f₂, f₃, t)) (λ f₄.
       case (eqb i statusAt) (λ t. rw (f₁, f₂, f₃, f₄, t)) (λ f₅. case (ltb i pageSize)
       (λ t. let u = ltb-true i pageSize t in
       rw (f₁, f₂, f₃, f₄, f₅, covers-below (highMasks .first) (highMasks .many) i (omega arith), and-false (eqb page 3), t, lt-ltb i memorySize (omega arith)))

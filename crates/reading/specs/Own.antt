@@ -1,13 +1,13 @@
 -- What the read puts over the bytes of the memory, in the order in which it does.
 -- Assumes nothing.
-use Rattle.laws.specs.Words.{ℕ, eqb, if_then_else_, within}
+use Rattle.laws.specs.Words.{_to_, ℕ, eqb, if_then_else_, within}
 use Rattle.model.specs.Ports.{Places}
-use Rattle.model.specs.Map.{flags, lowMasks, selectAt, blanks, flagOf, lowMaskOf, pageAt}
+use Rattle.model.specs.Map.{flags, lowMasks, flagOf, lowMaskOf, pageAt}
 
 -- what address a reads of the record o in lower memory, where else it would read v
 abbrev pub ownSeen : Places → ℕ → ℕ → ℕ
 ownSeen o a v =
     if within flags a then o (flagOf a)
     else (if within lowMasks a then o (lowMaskOf a)
-    else (if eqb a selectAt then o pageAt
-    else (if within blanks a then 0 else v)))
+    else (if eqb a 127 then o pageAt
+    else (if within (119 to 126) a then 0 else v)))

@@ -93,5 +93,5 @@ module _ (s : List ℕ) (n q : ℕ) {t : Bool} (l : length s ≡ stateSize) (h :
 
 -- limit w of a quantity, by its place
 pub limit-placed : (s : List ℕ) (q w i : ℕ) {x : Float} → x ≡ inUnit (quantity q .kind) (word (memoryOf s) i)
-    → i ≡ paged 3 (quantity q .limits + 2 * w) → x ≡ limit (memoryOf s) q w
+    → i ≡ paged 3 (quantity q .limitsFrom + 2 * w) → x ≡ limit (memoryOf s) q w
 limit-placed s q w i f p = rw (f, p)

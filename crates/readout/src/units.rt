@@ -82,7 +82,7 @@ pub fn is_unmeasured(state: &[u8], q: u64) -> bool
 // Where the first of a quantity's thresholds stands, in page 03h.
 pub fn thresholds_at(q: u64) -> usize
     requires { ⌜ q < 5 ⌝ }
-    ensures { λ r. ⌜ (r ≡ paged 3 (quantity q .limits)) × (r ≤ 576) ⌝ }
+    ensures { λ r. ⌜ (r ≡ paged 3 (quantity q .limitsFrom)) × (r ≤ 576) ⌝ }
 {
     match q {
         0 => 512, // 128

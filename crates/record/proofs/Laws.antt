@@ -18,6 +18,7 @@ use Rattle.laws.proofs.Tests.{and-left, and-right}
 use Rattle.laws.proofs.Rows.{first-none, first-append}
 use Rattle.laws.proofs.Lists.{patch-same, patch-next, patch-more}
 use Rattle.laws.proofs.Sums.{sum-last}
+use Rattle.ports.specs.Bytes
 use Rattle.model.specs.Ports.{caller}
 use Rattle.model.specs.Map.{flags, recordSize, stateSize, base, sound}
 use Rattle.model.specs.Refusals.{wrongSize, portRows}
@@ -36,7 +37,7 @@ port-first s n own e f = rw e at f ∙ sym (first-append ((1, wrongSize s) ∷ p
 -- where none of those of any call applies the state is 688 bytes, and the port's record is sound
 pub port-taken : (s : List ℕ) (n : ℕ) → firstOf ((1, wrongSize s) ∷ portRows (stateOf s) n) ≡ 0
     → (length s ≡ stateSize) × (sound (memoryOf s) (recordOf s (base (caller n))) ≡ true)
-unfolding stateOf
+unfolding Bytes.stateOf
 port-taken s n e =
     let r = first-none ((1, wrongSize s) ∷ portRows (stateOf s) n) refl .0 e in
     (search (and-left, not-true, not-false, eqb-true), search (and-left, and-right, not-true, not-false))

@@ -15,13 +15,15 @@ use Rattle.laws.proofs.Tests.{case, if-not, covers-in}
 use Rattle.laws.proofs.Lists.{patch-length, patch-at, patch-below}
 use Rattle.laws.proofs.Fronts.{front-in, front-over, front-set}
 use Rattle.laws.proofs.Runs.{overlaid, overlaid-front}
+use Rattle.ports.specs.Effects
+use Rattle.ports.specs.Interrupt
 use Rattle.model.specs.Ports.{Port, operator, recorder, reset}
 use Rattle.model.specs.Map.{memorySize, recordSize, stateSize, base, statusAt}
 use Rattle.model.specs.Reset.{emptied, inPage02, fresh}
 use Rattle.model.specs.Interrupt.{count}
-use Rattle.model.specs.Calls.{done}
 use Rattle.model.specs.Bytes.{stateOf, recordOf, bytesOf, refusalOf}
 use Rattle.model.specs.Contracts.{Reported}
+use Rattle.model.proofs.Names.{done}
 use Rattle.model.proofs.Bytes.{base-fits, bytes-by-part, memory-at}
 use Rattle.model.proofs.Begun.{taken-size, begun-image}
 use Rattle.model.proofs.Contracts.{taken-reported}
@@ -85,14 +87,14 @@ module _ (s img : List ℕ) (taken : refusalOf s (reset img) ≡ 0) (t u : List 
       rw et (patch-at memorySize (2 * recordSize) (λ j. 0) u (base p + k) (omega arith) ∙ rw (covers-in memorySize (2 * recordSize) (base p + k) (omega arith) (omega arith)))
 
   bytes-are : t ≡ bytesOf (done (stateOf s) (reset img))
-  unfolding done
+  unfolding Effects.done
   bytes-are =
       bytes-by-part (done (stateOf s) (reset img)) t (ap length et ∙ patch-length memorySize (2 * recordSize) (λ j. 0) u ∙ long-u)
       (λ i h. memory-is i h ∙ sym (ap (fresh img i) (memory-at s i h))) record-is
 
   -- the counts of records that are all 0
   none : (p : Port) → 0 ≡ count (recordOf t (base p))
-  unfolding count sum
+  unfolding Interrupt.countOf sum
   none p =
       let e : recordOf t (base p) ≡ (λ k. 0) = fun-ext (λ k. case (ltb k recordSize) (λ q. rw q (record-is p k (ltb-true k recordSize q))) (λ q. rw q)) in
       sym (ap count e)

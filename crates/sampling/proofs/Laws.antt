@@ -15,14 +15,16 @@ use Rattle.laws.proofs.Tests.{case, and-left, and-right}
 use Rattle.laws.proofs.Rows.{first-none}
 use Rattle.laws.proofs.Lists.{table-at, patch-length, patch-at, patch-in, patch-above, patch-else, at-set}
 use Rattle.laws.proofs.Fronts.{front-in, is-front}
+use Rattle.ports.specs.Bytes
+use Rattle.ports.specs.Effects
+use Rattle.ports.specs.Modules
 use Rattle.model.specs.Ports.{Port, operator, recorder, Places, sample}
 use Rattle.model.specs.Map.{memorySize, recordSize, stateSize, base, statusAt, flags, sound}
-use Rattle.model.specs.Refusals.{rows}
-use Rattle.model.specs.Samples.{Quantity, quantities, statusBytes, sampleSize, offered, conds, storedOf, stored, raised}
+use Rattle.model.specs.Samples.{Quantity, quantities, sampleSize, offered, conds, storedOf, stored, raised}
 use Rattle.model.specs.Interrupt.{count}
-use Rattle.model.specs.Calls.{done}
 use Rattle.model.specs.Bytes.{memoryOf, recordOf, stateOf, rowsOf, refusalOf}
 use Rattle.model.specs.Contracts.{Reported}
+use Rattle.model.proofs.Names.{rows, done}
 use Rattle.model.proofs.Lasting.{stored-high}
 use Rattle.model.proofs.Bytes.{base-fits, bytes-by-part, memory-at, record-at}
 use Rattle.model.proofs.Contracts.{taken-reported}
@@ -33,12 +35,12 @@ use Rattle.model.proofs.Contracts.{taken-reported}
 pub sample-refusal : (s x : List ℕ) {i j : ℕ} {a b : Bool} → length s ≡ stateSize → i ≡ base operator → j ≡ base recorder
     → a ≡ sound (memoryOf s) (recordOf s i) → b ≡ sound (memoryOf s) (recordOf s j)
     → refusalOf s (sample x) ≡ (if not a || not b then 3 else (if not (eqb (length x) sampleSize) then 8 else 0))
-unfolding refusalOf rowsOf rows stateOf
+unfolding Bytes.refusalOf Bytes.rowsOf Modules.rows Bytes.stateOf
 sample-refusal s x e ei ej ea eb = rw (e, ea, eb, ei, ej)
 
 -- an accepted sample is on 688 bytes, and has 31
 pub sample-sizes : (s x : List ℕ) → refusalOf s (sample x) ≡ 0 → (length s ≡ stateSize) × (length x ≡ sampleSize)
-unfolding refusalOf rowsOf rows
+unfolding Bytes.refusalOf Bytes.rowsOf Modules.rows
 sample-sizes s x e =
     let n = first-none (rowsOf s (sample x)) refl .0 e in
     search (and-left, and-right, eqb-true, not-true, not-false)
@@ -50,19 +52,19 @@ module _ (mem : Places) (x s : List ℕ) where
   abbrev pub storing : List Quantity → List ℕ
   storing [] = s
   storing (q ∷ qs) =
-      if offered mem q then patch (q .stored) (2 * q .channels) (λ j. at x (statusBytes + 2 * q .number + j)) (storing qs)
+      if offered mem q then patch (q .storedFrom) (2 * q .channels) (λ j. at x (3 + 2 * q .number + j)) (storing qs)
       else storing qs
 
   storing-length : (qs : List Quantity) → length (storing qs) ≡ length s
   storing-length [] = refl
   storing-length (q ∷ qs) = case (offered mem q)
-      (λ t. rw t (patch-length (q .stored) (2 * q .channels) (λ j. at x (statusBytes + 2 * q .number + j)) (storing qs) ∙ storing-length qs))
+      (λ t. rw t (patch-length (q .storedFrom) (2 * q .channels) (λ j. at x (3 + 2 * q .number + j)) (storing qs) ∙ storing-length qs))
       (λ t. rw t (storing-length qs))
 
   storing-at : (qs : List Quantity) (i : ℕ) → i < length s → at (storing qs) i ≡ storedOf mem x qs i (at s i)
   storing-at [] i h = refl
   storing-at (q ∷ qs) i h = case (offered mem q)
-      (λ t. rw t (patch-at (q .stored) (2 * q .channels) (λ j. at x (statusBytes + 2 * q .number + j)) (storing qs) i (rw (storing-length qs) h)
+      (λ t. rw t (patch-at (q .storedFrom) (2 * q .channels) (λ j. at x (3 + 2 * q .number + j)) (storing qs) i (rw (storing-length qs) h)
       ∙ rw (and-true, storing-at qs i h)))
       (λ t. rw (t, and-false) (storing-at qs i h))
 
@@ -146,5 +148,5 @@ module _ (s x : List ℕ) (taken : refusalOf s (sample x) ≡ 0) (cs : List ℕ)
       (raising-else cs (base operator) t₁ t₂ e₂ l₁ (base recorder + k) (omega arith) (λ y z. omega arith) ∙ before recorder k h)
 
   pub sample-done : (c d : ℕ) → c ≡ count (recordOf t₃ (base operator)) → d ≡ count (recordOf t₃ (base recorder)) → Reported s (sample x) 0 c d t₃
-  unfolding done stateOf
+  unfolding Effects.done Bytes.stateOf
   sample-done = taken-reported s (sample x) taken t₃ (bytes-by-part (done (stateOf s) (sample x)) t₃ (raising-long cs (base recorder) t₂ t₃ e₃ l₂) memory-is record-is)

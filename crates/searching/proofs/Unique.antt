@@ -2,15 +2,15 @@
 -- Assumes nothing.
 use mathlib.Core.Path.{_≡_, refl, sym, ap, _∙_}
 use mathlib.Core.List.{List}
-use mathlib.Core.Option.{none, some}
+use mathlib.Core.Option.{none, some, Option}
 use Prim.Native.Nat.{ℕ}
-use Rattle.question.specs.Search.{Answer, refused, given, firstTold}
+use Rattle.question.specs.Search.{Told, refused, given, firstTold}
 use Rattle.searching.specs.Meaning.{firstSays}
 use Rattle.searching.specs.declared.First.{First}
 use Rattle.searching.specs.declared.First.the-variants as firsts
 
 -- the outcome that says it
-abbrev first-of : Answer → First
+abbrev first-of : Told (Option ℕ) → First
 first-of (refused n) = firsts.Refused n
 first-of (given none) = firsts.Never
 first-of (given (some i)) = firsts.At i

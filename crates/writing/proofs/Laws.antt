@@ -19,15 +19,17 @@ use Rattle.address.specs.Meaning.{seatOf}
 use Rattle.address.specs.declared.Slot.{Slot}
 use Rattle.address.specs.declared.Slot.the-variants.{Flag, Mine, Common, Status, Blank}
 use Rattle.address.proofs.Slot.{the-type}
+use Rattle.ports.specs.Bytes
+use Rattle.ports.specs.Effects
 use Rattle.model.specs.Ports.{Port, caller, State, write}
 use Rattle.model.specs.Map.{stateSize, base, pageAt, Seat, seat}
-use Rattle.model.specs.Refusals.{miscounted, beyond, across, isMine, allMine}
+use Rattle.model.specs.Refusals.{miscounted, across, isMine, allMine}
 use Rattle.model.specs.Writing.{classOf, written, store, puts}
 use Rattle.model.specs.Interrupt.{count}
-use Rattle.model.specs.Calls.{done}
-use Rattle.model.specs.Bytes.{memoryOf, recordOf, stateOf, place, bytesOf, refusalOf}
+use Rattle.model.specs.Bytes.{memoryOf, recordOf, stateOf, bytesOf, refusalOf}
 use Rattle.model.specs.Contracts.{WriteDone}
 use Rattle.model.specs.Demands.{placeOf}
+use Rattle.model.proofs.Names.{beyond, done, place}
 use Rattle.model.proofs.Fits.{fits-of, fits-puts}
 use Rattle.model.proofs.Bytes.{state-bytes, place-state, bytes-by-place, bytes-state}
 use Rattle.model.proofs.Writes.{Within, store-hit, store-miss, accepted-range}
@@ -68,7 +70,7 @@ slot-other Blank o = refl
 module _ (s : List ℕ) (p : Port) (v : ℕ) (long : length s ≡ stateSize) where
   pub stored : (t : Seat) (i : ℕ) → Within t → placeOf p t ≡ some i → i < stateSize
       → set s i (written (memoryOf s) (classOf p t) (at s i) v) ≡ bytesOf (store (stateOf s) p v t)
-  unfolding stateOf
+  unfolding Bytes.stateOf
   stored t i w e h =
       let new : ℕ = written (memoryOf s) (classOf p t) (at s i) v in
       let hit : place (store (stateOf s) p v t) i ≡ new = rw (place-state s i h) at (store-hit (stateOf s) p v t i w e) in
@@ -122,14 +124,14 @@ module _ (s : List ℕ) (p : Port) (g a : ℕ) (vs : List ℕ) where
 module _ (s : List ℕ) (n a : ℕ) (vs : List ℕ) (taken : refusalOf s (write n a vs) ≡ 0) where
   -- the page is one of the four, and the addresses end at 255
   pub write-taken : (length s ≡ stateSize) × (recordOf s (base (caller n)) pageAt < 4) × (a + length vs ≤ 256)
-  unfolding stateOf
+  unfolding Bytes.stateOf
   write-taken =
       let r = accepted-range (stateOf s) n a vs (taken-state s (write n a vs) taken) in
       (taken-size s (write n a vs) taken, r .1, r .0)
 
   pub write-done : (t : List ℕ) (c : ℕ) → t ≡ bytesOf (puts (stateOf s) (caller n) (recordOf s (base (caller n)) pageAt) a vs)
       → c ≡ count (recordOf t (base (caller n))) → WriteDone s n a vs 0 c t
-  unfolding done stateOf
+  unfolding Effects.done Bytes.stateOf
   write-done t c e f = record {
     refusal-is = sym taken;
     count-is = taken-count s (write n a vs) taken t e (caller n) c f;

@@ -9,7 +9,9 @@ add-requires : tie.Need-add-requires
 add-requires c κs = search needs
 
 told-requires : tie.Need-told-requires
-told-requires c κs = search (needs, added-fits (c .before .before .add .ensures))
+told-requires c κs =
+    let x = c .before .before .before .before .before .before .args in
+    search (needs, added-fits (x .log .now) (x .used) (x .sample .now) (c .before .before .add .ensures))
 
 same-length : tie.Need-same-length
 same-length c = search needs

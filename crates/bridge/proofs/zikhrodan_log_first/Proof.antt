@@ -1,8 +1,9 @@
 -- `bridge::zikhrodan_log_first` meets its contract.
 -- Assumes nothing.
+use Rattle.packing.specs.Packing.{refusalIn}
 use mathlib.Core.Path.{ap, _∙_}
 use borrow.Author.Needs.{needs}
-use Rattle.bridge.specs.Face.{refusalOfFirst, valueOfFirst}
+use Rattle.bridge.specs.Face.{valueOfFirst}
 use Rattle.bridge.proofs.zikhrodan_log_first.Statement.{statement}
 use Rattle.bridge.proofs.zikhrodan_log_first.Tie as tie
 
@@ -22,7 +23,7 @@ returns : tie.Need-returns
 returns c =
     let t = c .told .ensures in
     let f = c .before .before .before .first-with .ensures in
-    record { refusal-is = t .0 ∙ c .before .before .first-refusal .ensures ∙ ap refusalOfFirst f; value-is = t .1 ∙ c .before .first-value .ensures .0 ∙ ap valueOfFirst f }
+    record { refusal-is = t .0 ∙ c .before .before .first-refusal .ensures ∙ ap refusalIn f; value-is = t .1 ∙ c .before .first-value .ensures .0 ∙ ap valueOfFirst f }
 
 pub zikhrodan-log-first-spec : {M : Type 1} → statement M
 zikhrodan-log-first-spec =

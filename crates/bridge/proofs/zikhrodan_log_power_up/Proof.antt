@@ -9,7 +9,9 @@ power-up-requires : tie.Need-power-up-requires
 power-up-requires c κs = search needs
 
 told-requires : tie.Need-told-requires
-told-requires c κs = search (needs, opened-fits (c .before .before .power-up .ensures))
+told-requires c κs =
+    let x = c .before .before .before .before .before .args in
+    search (needs, opened-fits (x .log .now) (x .used) (c .before .before .power-up .ensures))
 
 same-length : tie.Need-same-length
 same-length c = search needs

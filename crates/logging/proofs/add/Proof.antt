@@ -4,8 +4,8 @@ use mathlib.Core.Path.{_≡_, sym, _∙_}
 use native.Mathlib.Omega.{arith}
 use borrow.Author.Needs.{needs}
 use Rattle.log.specs.Contracts.{addRefusal}
-use Rattle.log.proofs.Contracts.{add-refused, added-new, added-last}
-use Rattle.log.proofs.Calls.{add-taken, add-room, add-last-room}
+use Rattle.log.proofs.Contracts.{changed-refused, added-new, added-last}
+use Rattle.log.proofs.Adds.{add-taken, add-room, add-last-room}
 use Rattle.logging.proofs.Laws.{opened-room, opened-grown}
 use Rattle.logging.proofs.add.Statement.{statement}
 use Rattle.logging.proofs.add.Tie as tie
@@ -21,7 +21,7 @@ same-length : tie.Need-same-length
 same-length c = search needs
 
 returns : tie.Need-returns
-returns c = add-refused _ _ _ _ (c .before .add-refusal .ensures) (c .if1 .taken)
+returns c = changed-refused _ _ _ _ _ (c .before .add-refusal .ensures) (c .if1 .taken)
 
 needs-new-requires : tie.Need-needs-new-requires
 needs-new-requires c κs =

@@ -2,8 +2,8 @@
 -- Assumes nothing.
 use mathlib.Core.Path.{sym, _∙_}
 use borrow.Author.Needs.{needs}
-use Rattle.log.proofs.Contracts.{power-up-refused, opened-new}
-use Rattle.log.proofs.Calls.{power-up-room}
+use Rattle.log.proofs.Contracts.{changed-refused, opened-new}
+use Rattle.log.proofs.PowerUps.{power-up-room}
 use Rattle.logging.proofs.power_up.Statement.{statement}
 use Rattle.logging.proofs.power_up.Tie as tie
 
@@ -14,7 +14,7 @@ same-length : tie.Need-same-length
 same-length c = search needs
 
 returns : tie.Need-returns
-returns c = power-up-refused _ _ _ (c .before .power-up-refusal .ensures) (c .if1 .taken)
+returns c = changed-refused _ _ _ _ _ (c .before .power-up-refusal .ensures) (c .if1 .taken)
 
 open-block-requires : tie.Need-open-block-requires
 open-block-requires c κs =

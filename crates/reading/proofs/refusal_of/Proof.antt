@@ -3,8 +3,11 @@
 use borrow.Author.Tests.{ne-eqb}
 use borrow.Author.Needs.{needs}
 use lib.ListN.{length}
-use Rattle.model.specs.Refusals.{readRows, rows}
+use Rattle.ports.specs.Bytes
+use Rattle.ports.specs.Modules
+use Rattle.model.specs.Refusals.{readRows}
 use Rattle.model.specs.Bytes.{rowsOf, refusalOf}
+use Rattle.model.proofs.Names.{rows}
 use Rattle.record.proofs.Laws.{port-first}
 use Rattle.reading.proofs.refusal_of.Statement.{statement}
 use Rattle.reading.proofs.refusal_of.Tie as tie
@@ -13,7 +16,7 @@ port-refusal-requires : tie.Need-port-refusal-requires
 port-refusal-requires c κs = search needs
 
 returns : tie.Need-returns
-unfolding refusalOf rowsOf rows
+unfolding Bytes.refusalOf Bytes.rowsOf Modules.rows
 returns c =
     let p = c .before in
     let x = p .before .before .before .args in
@@ -23,7 +26,7 @@ run-refusal-requires : tie.Need-run-refusal-requires
 run-refusal-requires c κs = search needs
 
 returns-2 : tie.Need-returns-2
-unfolding refusalOf rowsOf rows
+unfolding Bytes.refusalOf Bytes.rowsOf Modules.rows
 returns-2 c =
     let p = c .before .before in
     let x = p .before .before .before .args in

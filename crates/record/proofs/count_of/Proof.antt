@@ -4,7 +4,8 @@ use mathlib.Core.Path.{sym}
 use mathlib.Core.List.{map}
 use borrow.Author.Needs.{needs}
 use Rattle.laws.proofs.Sums.{sum-append}
-use Rattle.model.specs.Interrupt.{beside, countPair, count}
+use Rattle.ports.specs.Interrupt
+use Rattle.model.specs.Interrupt.{beside, countPair}
 use Rattle.model.specs.Bytes.{recordOf}
 use Rattle.record.proofs.count_of.Statement.{statement}
 use Rattle.record.proofs.count_of.Tie as tie
@@ -19,7 +20,7 @@ add-result : tie.Need-add-result
 add-result c = search needs
 
 returns : tie.Need-returns
-unfolding count
+unfolding Interrupt.countOf
 returns c =
     let x = c .before .before .before .args in
     let g = countPair (recordOf (x .state .now) (x .base .0)) in

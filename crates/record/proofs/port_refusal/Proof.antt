@@ -3,6 +3,7 @@
 use mathlib.Core.Path.{sym, _∙_}
 use borrow.Author.Tests.{eq-eqb, ne-eqb}
 use borrow.Author.Needs.{needs}
+use Rattle.ports.specs.Bytes
 use Rattle.model.specs.Bytes.{stateOf}
 use Rattle.record.proofs.port_refusal.Statement.{statement}
 use Rattle.record.proofs.port_refusal.Tie as tie
@@ -20,13 +21,13 @@ is-sound-requires : tie.Need-is-sound-requires
 is-sound-requires c κs = search needs
 
 returns-3 : tie.Need-returns-3
-unfolding stateOf
+unfolding Bytes.stateOf
 returns-3 c =
     let x = c .before .before in
     rw (eq-eqb _ _ (x .before .before .if1 .left), x .before .if2 .left, ← x .record-of .ensures .0, sym (c .before .is-sound .ensures) ∙ c .if3 .taken)
 
 returns-4 : tie.Need-returns-4
-unfolding stateOf
+unfolding Bytes.stateOf
 returns-4 c =
     let x = c .before .before in
     rw (eq-eqb _ _ (x .before .before .if1 .left), x .before .if2 .left, ← x .record-of .ensures .0, sym (c .before .is-sound .ensures) ∙ c .if3 .left)

@@ -5,7 +5,8 @@ use mathlib.Core.Logic.{_≢_}
 use native.Mathlib.Omega.{arith}
 use borrow.Author.Tests.{eq-eqb, ne-eqb}
 use borrow.Author.Needs.{needs}
-use Rattle.model.specs.Interrupt.{count, stands}
+use Rattle.ports.specs.Interrupt
+use Rattle.model.specs.Interrupt.{count}
 use Rattle.model.specs.Bytes.{recordOf}
 use Rattle.record.proofs.status.Statement.{statement}
 use Rattle.record.proofs.status.Tie as tie
@@ -26,7 +27,7 @@ add-result-2 : tie.Need-add-result-2
 add-result-2 c = search needs
 
 returns : tie.Need-returns
-unfolding stands
+unfolding Interrupt.standsOf
 returns c =
     let x = c .before .before .before .before .args in
     let e : count (recordOf (x .state .now) (x .base .0)) ≡ 0 = cc in
@@ -39,7 +40,7 @@ add-result-3 : tie.Need-add-result-3
 add-result-3 c = search needs
 
 returns-2 : tie.Need-returns-2
-unfolding stands
+unfolding Interrupt.standsOf
 returns-2 c =
     let x = c .before .before .before .before .args in
     let e : count (recordOf (x .state .now) (x .base .0)) ≢ 0 = λ h. c .if1 .left (c .before .count-of .ensures ∙ h) in

@@ -2,17 +2,19 @@
 -- Assumes nothing.
 use borrow.Author.Tests.{eq-eqb, ne-eqb}
 use borrow.Author.Needs.{needs}
-use Rattle.model.specs.Refusals.{rows}
+use Rattle.ports.specs.Bytes
+use Rattle.ports.specs.Modules
 use Rattle.model.specs.Bytes.{rowsOf, refusalOf}
+use Rattle.model.proofs.Names.{rows}
 use Rattle.resetting.proofs.refusal_of.Statement.{statement}
 use Rattle.resetting.proofs.refusal_of.Tie as tie
 
 returns : tie.Need-returns
-unfolding refusalOf rowsOf
+unfolding Bytes.refusalOf Bytes.rowsOf
 returns c = rw (ne-eqb _ _ (c .if1 .taken))
 
 returns-2 : tie.Need-returns-2
-unfolding refusalOf rowsOf rows
+unfolding Bytes.refusalOf Bytes.rowsOf Modules.rows
 returns-2 c = rw (eq-eqb _ _ (c .before .if1 .left), ne-eqb _ _ (c .if2 .taken))
 
 sub-are-right : tie.Need-sub-are-right
@@ -28,13 +30,13 @@ are-right-requires : tie.Need-are-right-requires
 are-right-requires c κs = search needs
 
 returns-3 : tie.Need-returns-3
-unfolding refusalOf rowsOf rows
+unfolding Bytes.refusalOf Bytes.rowsOf Modules.rows
 returns-3 c =
     let e = c .before .before .before in
     rw (eq-eqb _ _ (e .before .if1 .left), eq-eqb _ _ (e .if2 .left), ← c .before .are-right .ensures, c .if3 .taken)
 
 returns-4 : tie.Need-returns-4
-unfolding refusalOf rowsOf rows
+unfolding Bytes.refusalOf Bytes.rowsOf Modules.rows
 returns-4 c =
     let e = c .before .before .before in
     rw (eq-eqb _ _ (e .before .if1 .left), eq-eqb _ _ (e .if2 .left), ← c .before .are-right .ensures, c .if3 .left)

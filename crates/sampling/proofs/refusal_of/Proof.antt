@@ -2,13 +2,14 @@
 -- Assumes nothing.
 use borrow.Author.Tests.{eq-eqb, ne-eqb}
 use borrow.Author.Needs.{needs}
+use Rattle.ports.specs.Bytes
 use Rattle.model.specs.Bytes.{rowsOf, refusalOf}
 use Rattle.sampling.proofs.Laws.{sample-refusal}
 use Rattle.sampling.proofs.refusal_of.Statement.{statement}
 use Rattle.sampling.proofs.refusal_of.Tie as tie
 
 returns : tie.Need-returns
-unfolding refusalOf rowsOf
+unfolding Bytes.refusalOf Bytes.rowsOf
 returns c = rw (ne-eqb _ _ (c .if1 .taken))
 
 record-of-requires : tie.Need-record-of-requires

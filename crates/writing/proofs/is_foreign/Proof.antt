@@ -2,6 +2,7 @@
 -- Assumes nothing.
 use borrow.Author.Tests.{ne-eqb}
 use borrow.Author.Needs.{needs}
+use Rattle.ports.specs.Bytes
 use Rattle.model.specs.Ports.{caller}
 use Rattle.model.specs.Map.{base}
 use Rattle.model.specs.Bytes.{memoryOf, recordOf, stateOf}
@@ -24,7 +25,7 @@ are-mine-requires c κs =
     (rw (c .page-of .ensures, c .before .record-of .ensures .0) (sound-page (memoryOf (x .args .state .now)) (recordOf (x .args .state .now) (base (caller (x .args .port)))) (x .pre .1)), search needs)
 
 returns-2 : tie.Need-returns-2
-unfolding stateOf
+unfolding Bytes.stateOf
 returns-2 c =
     rw (c .are-mine .ensures, c .before .page-of .ensures, c .before .before .record-of .ensures .0, ne-eqb _ _ (c .before .before .before .if1 .left))
 

@@ -4,8 +4,11 @@ use mathlib.Core.Path.{sym, _∙_}
 use borrow.Author.Tests.{ne-eqb}
 use borrow.Author.Needs.{needs}
 use lib.ListN.{length}
-use Rattle.model.specs.Refusals.{writeRows, rows}
+use Rattle.ports.specs.Bytes
+use Rattle.ports.specs.Modules
+use Rattle.model.specs.Refusals.{writeRows}
 use Rattle.model.specs.Bytes.{stateOf, rowsOf, refusalOf}
+use Rattle.model.proofs.Names.{rows}
 use Rattle.record.proofs.Laws.{port-first, port-taken}
 use Rattle.writing.proofs.refusal_of.Statement.{statement}
 use Rattle.writing.proofs.refusal_of.Tie as tie
@@ -14,7 +17,7 @@ port-refusal-requires : tie.Need-port-refusal-requires
 port-refusal-requires c κs = search needs
 
 returns : tie.Need-returns
-unfolding refusalOf rowsOf rows
+unfolding Bytes.refusalOf Bytes.rowsOf Modules.rows
 returns c =
     let p = c .before in
     let x = p .before .before .before .args in
@@ -28,7 +31,7 @@ run-refusal-requires c κs =
     port-taken (x .state .now) (x .port) (sym (p .port-refusal .ensures) ∙ c .if1 .left)
 
 returns-2 : tie.Need-returns-2
-unfolding refusalOf rowsOf rows
+unfolding Bytes.refusalOf Bytes.rowsOf Modules.rows
 returns-2 c =
     let p = c .before .before in
     let x = p .before .before .before .args in

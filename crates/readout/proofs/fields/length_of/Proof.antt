@@ -5,7 +5,6 @@ use mathlib.Core.Logic.{_≢_}
 use native.Mathlib.Omega.{arith}
 use borrow.Author.Tests.{ne-eqb}
 use borrow.Author.Needs.{needs}
-use Rattle.model.specs.Readout.{ouiField}
 use Rattle.model.proofs.Identity.{run-fits, trimmed-le}
 use Rattle.readout.proofs.fields.length_of.Statement.{statement}
 use Rattle.readout.proofs.fields.length_of.Tie as tie
@@ -15,7 +14,7 @@ many-of-requires c κs = search needs
 
 returns : tie.Need-returns
 returns c =
-    let oui : c .before .before .before .args .field ≡ ouiField = c .if1 .taken in
+    let oui : c .before .before .before .args .field ≡ 2 = c .if1 .taken in
     c .before .many-of .ensures ∙ rw oui
 
 start-of-requires : tie.Need-start-of-requires
@@ -40,7 +39,7 @@ cast-result c =
 returns-2 : tie.Need-returns-2
 returns-2 c =
     let m = c .before .before .before in
-    let other : m .before .before .args .field ≢ ouiField = c .before .before .if1 .left in
+    let other : m .before .before .args .field ≢ 2 = c .before .before .if1 .left in
     rw (ne-eqb _ _ other) (c .trimmed .ensures ∙ rw (c .before .start-of .ensures, m .many-of .ensures))
 
 pub length-of-spec : {M : Type 1} → statement M

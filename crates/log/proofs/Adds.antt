@@ -1,74 +1,27 @@
--- Document 02, Ask 1: what the calls on a log leave. A sound log stays sound, an accepted sample comes after those that were there, a
--- power-up changes no sample, and nothing is changed but the last used block or the new one.
+-- Document 02, Ask 1: what an add leaves. Whether the block that is written is the last or a new one, it follows the one before it and
+-- has one sample more: so a sound log stays sound, the sample comes after those that were there, and no other block is changed.
 -- Assumes nothing.
 use mathlib.Core.Path.{_≡_, refl, sym, ap, _∙_}
 use mathlib.Core.Logic.{_≢_}
 use mathlib.Core.Bool.{true, false, true≢false, not, _&&_}
-use mathlib.Core.List.{List, [], _∷_, _++_, append-assoc, append-nil}
+use mathlib.Core.List.{List, [], _∷_, _++_, append-assoc}
 use Prim.Native.Nat.{ℕ, zero, suc, _+_, _-_, _*_, _≤_, _<_}
 use native.Mathlib.Omega.{arith}
-use lib.Dec.{leb, eqb}
+use lib.Dec.{eqb}
 use lib.ListN.{length}
-use borrow.Author.Tests.{eqb-true, eqb-false, leb-false, not-true, not-false}
+use borrow.Author.Tests.{eqb-true, leb-false, not-true, not-false}
 use Rattle.laws.specs.Tests.{if_then_else_}
 use Rattle.laws.specs.Lists.{at}
-use Rattle.laws.proofs.Tests.{case, and-left, and-right, or-left, or-right}
+use Rattle.laws.proofs.Tests.{case, and-left, and-right}
 use Rattle.laws.proofs.Lists.{part-length}
 use Rattle.laws.proofs.Rows.{first-none}
 use Rattle.block.specs.Block.{blockSize, sampleSize, number, count, mostSamples, samplesIn, soundBlock, grown, Bytes}
-use Rattle.log.specs.Log.{blocks, block, samples, lastNumber, needsNew, put, newBlock, afterPowerUp, afterAdd, usedAfter, wrongSample, unsound, noneLeft, addRows, powerUpRows}
-use Rattle.log.specs.Contracts.{addRefusal, powerUpRefusal}
-use Rattle.block.proofs.Blocks.{fresh-length, fresh-count, fresh-samples, fresh-sound, fresh-number, grown-length, grown-number, grown-samples, grown-sound}
-use Rattle.log.proofs.Logs.{sound-less, sound-block, sound-follows, put-length, put-else, put-here, bytes-block}
-use Rattle.log.proofs.Fits.{Fit, fit, Next, next-of, next-new, put-fit, put-samples}
-
--- ---- a power-up
-
--- the last used block's number, where it is not the last of all
-pub next-small : (log : List ℕ) (used : ℕ) → Bytes log → used ≤ blocks log → lastNumber log used ≢ 4294967295 → suc (lastNumber log used) < 4294967296
-next-small log zero bytes h d = omega arith
-next-small log (suc n) bytes h d =
-    let byte = bytes-block log n bytes (omega arith) in
-    let b₀ = byte 0 in
-    let b₁ = byte 1 in
-    let b₂ = byte 2 in
-    let b₃ = byte 3 in
-    omega (arith, d)
-
--- what is not refused 14
-pub left-over : (log : List ℕ) (used : ℕ) → noneLeft log used ≡ false → (used < blocks log) × (lastNumber log used ≢ 4294967295)
-left-over log used e = (
-  leb-false (blocks log) used (or-left (leb (blocks log) used) (eqb (lastNumber log used) 4294967295) e),
-  eqb-false (lastNumber log used) 4294967295 (or-right (leb (blocks log) used) (eqb (lastNumber log used) 4294967295) e),
-)
-
-module _ (log : List ℕ) (used : ℕ) (bytes : Bytes log) (was : Fit log used) (free : noneLeft log used ≡ false) where
-  small : suc (lastNumber log used) < 4294967296
-  small = next-small log used bytes (was .fits) (left-over log used free .1)
-
-  new-number : number (newBlock log used) ≡ suc (lastNumber log used)
-  new-number = fresh-number (suc (lastNumber log used)) small
-
-  -- the sound log stays sound, with one block more
-  pub power-up-sound : Fit (afterPowerUp log used) (suc used)
-  power-up-sound =
-      put-fit log used (was .whole) (left-over log used free .0) (was .good) (newBlock log used) (fresh-length _)
-      (fresh-sound _) (rw new-number (next-new log used))
-
-  -- "a power-up changes no sample"
-  pub power-up-samples : samples (afterPowerUp log used) (suc used) ≡ samples log used
-  power-up-samples =
-      put-samples log used (was .whole) (left-over log used free .0) (was .good) (newBlock log used) (fresh-length _)
-      (fresh-sound _) (rw new-number (next-new log used))
-      ∙ rw (fresh-samples _) (append-nil (samples log used))
-
-  -- numbers rise by one
-  pub power-up-number : lastNumber (afterPowerUp log used) (suc used) ≡ suc (lastNumber log used)
-  power-up-number =
-      let room = left-over log used free .0 in
-      rw (put-here log used (newBlock log used) (fresh-length _) (omega arith)) new-number
-
--- ---- an add
+use Rattle.log.specs.Log.{blocks, block, samples, lastNumber, needsNew, put, newBlock, afterAdd, usedAfter, wrongSample, unsound, noneLeft, addRows, Fit}
+use Rattle.log.specs.Contracts.{addRefusal}
+use Rattle.block.proofs.Blocks.{fresh-length, fresh-count, fresh-samples, fresh-sound, grown-length, grown-number, grown-samples, grown-sound}
+use Rattle.log.proofs.Logs.{sound-less, sound-block, sound-follows, put-length, put-else, put-here}
+use Rattle.log.proofs.Fits.{fit, Next, next-of, next-new, put-fit, put-samples}
+use Rattle.log.proofs.PowerUps.{left-over, new-number}
 
 -- in a new block
 module _ (log : List ℕ) (used : ℕ) (x : List ℕ) (bytes : Bytes log) (was : Fit log used) (long : length x ≡ sampleSize) (free : noneLeft log used ≡ false) where
@@ -219,27 +172,3 @@ module _ (log : List ℕ) (used : ℕ) (x : List ℕ) (taken : addRefusal log us
       by (suc m) h e =
           let z : suc m - 1 ≡ m = omega arith in
           (omega arith, omega arith, rw z (leb-false mostSamples (count (block log m)) e))
-
--- ---- a power-up that is accepted
-
-module _ (log : List ℕ) (used : ℕ) (taken : powerUpRefusal log used ≡ 0) where
-  pub power-up-taken : Fit log used × (noneLeft log used ≡ false)
-  power-up-taken =
-      let u = unsound log used in
-      let f = noneLeft log used in
-      let all = first-none (powerUpRows log used) refl .0 taken in
-      (fit log used (not-true u (and-left (not u) (not f && true) all)), not-true f (and-left (not f) true (and-right (not u) (not f && true) all)))
-
-  pub power-up-room : blockSize * used + blockSize ≤ length log
-  power-up-room = let h = left-over log used (power-up-taken .1) .0 in omega arith
-
-  -- no byte is changed but those of the new block, and no length
-  pub power-up-elsewhere : (i : ℕ) → i < length log → (blockSize * used ≤ i → i < blockSize * used + blockSize → ⊥) → at (afterPowerUp log used) i ≡ at log i
-  power-up-elsewhere i h = put-else log used (newBlock log used) i h
-
-  pub power-up-length : length (afterPowerUp log used) ≡ length log
-  power-up-length = put-length log used (newBlock log used)
-
-  -- the sample that comes next goes into the new block
-  pub power-up-takes : needsNew (afterPowerUp log used) (suc used) ≡ false
-  power-up-takes = rw (put-here log used (newBlock log used) (fresh-length _) power-up-room, fresh-count _)
