@@ -22,7 +22,7 @@ use Rattle.model.specs.Ports.{Port, operator, recorder, nobody, caller, 
 use Rattle.model.specs.Map.{pageSize, memorySize, statusAt, flags, lowMasks, highMasks, lowMaskOf, highMaskOf, pageAt, recordSize, base, stateSize, Seat, flag, mine, common, status, blank, seat, supported, sound}
 use Rattle.model.specs.Writing.{Class, noBits, all, lowFour, lowThree, highFour, page, ownClass, classOf, reaches, written, entered, store, puts}
 use Rattle.model.specs.Refusals.{refusal, accepted}
-use Rattle.model.specs.Demands.{placeOf}
+use Rattle.model.specs.Demands.{seatPlace}
 use Rattle.ports.specs.Modules
 use Rattle.model.proofs.Names.{beyond, rows, place}
 use Rattle.ports.proofs.Ports.{give-elim, give-own}
@@ -71,35 +71,35 @@ isFrom p g a Option.none = true
 isFrom p g a (some i) = eqb (address p g i) a && ltb i stateSize
 
 leadsBack : Port → ℕ → ℕ → Bool
-leadsBack p g a = isFrom p g a (placeOf p (seat g a))
+leadsBack p g a = isFrom p g a (seatPlace p (seat g a))
 
 all-lead-back : (p : Port) → always (λ g. always (leadsBack p g) 256) 4 ≡ true
 unfolding leadsBack isFrom address ownAddress seat
 all-lead-back operator = refl
 all-lead-back recorder = refl
 
-leads-back : (p : Port) (g a i : ℕ) → g < 4 → a < 256 → placeOf p (seat g a) ≡ some i → (address p g i ≡ a) × (i < stateSize)
+leads-back : (p : Port) (g a i : ℕ) → g < 4 → a < 256 → seatPlace p (seat g a) ≡ some i → (address p g i ≡ a) × (i < stateSize)
 unfolding leadsBack isFrom
 leads-back p g a i l h e =
     let r = rw e at (always-at (leadsBack p g) 256 (always-at (λ f. always (leadsBack p f) 256) 4 (all-lead-back p) g l) a h) in
     (search (and-left, eqb-true), search (and-right, ltb-true))
 
 -- an address leads to a place of the state
-pub leads-inside : (p : Port) (g a i : ℕ) → g < 4 → a < 256 → placeOf p (seat g a) ≡ some i → i < stateSize
+pub leads-inside : (p : Port) (g a i : ℕ) → g < 4 → a < 256 → seatPlace p (seat g a) ≡ some i → i < stateSize
 leads-inside p g a i l h e = leads-back p g a i l h e .1
 
 -- two addresses of one page never lead to one place
 pub one-address : (p : Port) (g a b i : ℕ) → g < 4 → a < 256 → b < 256
-    → placeOf p (seat g a) ≡ some i → placeOf p (seat g b) ≡ some i → a ≡ b
+    → seatPlace p (seat g a) ≡ some i → seatPlace p (seat g b) ≡ some i → a ≡ b
 one-address p g a b i l h k e f = sym (leads-back p g a i l h e .0) ∙ leads-back p g b i l k f .0
 
-later-elsewhere : (p : Port) (g a b i : ℕ) → g < 4 → a < b → b < 256 → placeOf p (seat g a) ≡ some i → placeOf p (seat g b) ≢ some i
+later-elsewhere : (p : Port) (g a b i : ℕ) → g < 4 → a < b → b < 256 → seatPlace p (seat g a) ≡ some i → seatPlace p (seat g b) ≢ some i
 later-elsewhere p g a b i l h k e f = let z = one-address p g a b i l (omega arith) k e f in omega arith
 
 -- ---- one byte
 
 -- the place that a byte is written to takes it as its class allows
-pub store-hit : (m : State) (p : Port) (v : ℕ) (t : Seat) (i : ℕ) → Within t → placeOf p t ≡ some i
+pub store-hit : (m : State) (p : Port) (v : ℕ) (t : Seat) (i : ℕ) → Within t → seatPlace p t ≡ some i
     → place (store m p v t) i ≡ written (m .mem) (classOf p t) (place m i) v
 unfolding store written
 store-hit m p v (flag k) i w e = refl
@@ -114,12 +114,12 @@ store-hit m p v status i w e = refl
 store-hit m p v blank i w e = refl
 
 -- every other place stays
-pub store-miss : (m : State) (p : Port) (v : ℕ) (t : Seat) (i : ℕ) → i < stateSize → placeOf p t ≢ some i
+pub store-miss : (m : State) (p : Port) (v : ℕ) (t : Seat) (i : ℕ) → i < stateSize → seatPlace p t ≢ some i
     → place (store m p v t) i ≡ place m i
 unfolding store
 store-miss m p v t i h n = go t i (spot i h) n
   where
-    go : (t : Seat) (i : ℕ) → Spot i → placeOf p t ≢ some i → place (store m p v t) i ≡ place m i
+    go : (t : Seat) (i : ℕ) → Spot i → seatPlace p t ≢ some i → place (store m p v t) i ≡ place m i
     go (flag k) i s n = refl
     go (mine k) i (inMemory j l) n = place-memory (store m p v (mine k)) j l ∙ sym (place-memory m j l)
     go (mine k) i (inRecord q j l) n =
@@ -136,7 +136,7 @@ store-miss m p v t i h n = go t i (spot i h) n
 
 -- ".. and nothing else": a place that none of the addresses leads to stays
 pub puts-miss : (m : State) (p : Port) (g a : ℕ) (vs : List ℕ) (i : ℕ) → i < stateSize
-    → ((k : ℕ) → k < length vs → placeOf p (seat g (a + k)) ≢ some i) → place (puts m p g a vs) i ≡ place m i
+    → ((k : ℕ) → k < length vs → seatPlace p (seat g (a + k)) ≢ some i) → place (puts m p g a vs) i ≡ place m i
 unfolding puts
 puts-miss m p g a [] i h n = refl
 puts-miss m p g a (v ∷ vs) i h n =
@@ -146,7 +146,7 @@ puts-miss m p g a (v ∷ vs) i h n =
 
 -- "A write changes the writable bits it addresses ..": the place that address a + k leads to takes byte k as its class allows
 pub puts-hit : (m : State) (p : Port) (g a : ℕ) (vs : List ℕ) → g < 4 → a + length vs ≤ 256
-    → (k i : ℕ) → k < length vs → placeOf p (seat g (a + k)) ≡ some i
+    → (k i : ℕ) → k < length vs → seatPlace p (seat g (a + k)) ≡ some i
     → place (puts m p g a vs) i ≡ written (m .mem) (classOf p (seat g (a + k))) (place m i) (at vs k)
 unfolding puts
 puts-hit m p g a [] l r k i h e = absurd (omega arith)

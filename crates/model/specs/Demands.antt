@@ -36,16 +36,16 @@ Since img p b j h = Demands.StoodSince document01 (stood img b j) p b h
 -- ---- demand 2, writes
 
 -- the place in the state of a seat of port p, if it has one
-abbrev pub placeOf : Port → Seat → Option ℕ
-placeOf p (flag k) = some (base p + k)
-placeOf p (mine k) = some (base p + k)
-placeOf p (common i) = some i
-placeOf p status = none
-placeOf p blank = none
+abbrev pub seatPlace : Port → Seat → Option ℕ
+seatPlace p (flag k) = some (base p + k)
+seatPlace p (mine k) = some (base p + k)
+seatPlace p (common i) = some i
+seatPlace p status = none
+seatPlace p blank = none
 
 -- for the port of number n and the page that it has selected in the bytes s, address a leads to place i of the state
 abbrev pub Leads : List ℕ → ℕ → ℕ → ℕ → Type 0
-Leads s n a i = placeOf (caller n) (seat (stateOf s .own (caller n) pageAt) a) ≡ some i
+Leads s n a i = seatPlace (caller n) (seat (stateOf s .own (caller n) pageAt) a) ≡ some i
 
 -- what may be written there
 abbrev pub classAt : List ℕ → ℕ → ℕ → Class

@@ -23,8 +23,9 @@ use Rattle.model.specs.Ports.{caller}
 use Rattle.model.specs.Map.{flags, recordSize, stateSize, base, sound}
 use Rattle.model.specs.Refusals.{wrongSize, portRows}
 use Rattle.model.specs.Reading.{cleared}
-use Rattle.model.specs.Interrupt.{Pair, beside, countPair}
+use Rattle.model.specs.Interrupt.{Pair, countPair}
 use Rattle.model.specs.Bytes.{memoryOf, recordOf, stateOf}
+use Rattle.record.specs.Beside.{beside}
 use Rattle.model.proofs.Interrupt.{ones-through}
 
 -- ---- refusals of a call by a port

@@ -12,7 +12,8 @@ ghost use Rattle.model.specs.Map.{recordSize, stateSize, pageAt, flags, support
 ghost use Rattle.model.specs.Refusals.{wrongSize, portRows};
 ghost use Rattle.model.specs.Reading.{cleared, statusByte};
 ghost use Rattle.model.specs.Writing.{written};
-ghost use Rattle.model.specs.Interrupt.{beside, countPair, count};
+ghost use Rattle.model.specs.Interrupt.{countPair, count};
+ghost use Rattle.record.specs.Beside.{beside};
 ghost use Rattle.model.specs.Bytes.{memoryOf, recordOf, stateOf};
 ghost use Rattle.address.specs.Meaning.{means};
 use address::Class;

@@ -28,7 +28,7 @@ use Rattle.model.specs.Writing.{classOf, written, store, puts}
 use Rattle.model.specs.Interrupt.{count}
 use Rattle.model.specs.Bytes.{memoryOf, recordOf, stateOf, bytesOf, refusalOf}
 use Rattle.model.specs.Contracts.{WriteDone}
-use Rattle.model.specs.Demands.{placeOf}
+use Rattle.model.specs.Demands.{seatPlace}
 use Rattle.model.proofs.Names.{beyond, done, place}
 use Rattle.model.proofs.Fits.{fits-of, fits-puts}
 use Rattle.model.proofs.Bytes.{state-bytes, place-state, bytes-by-place, bytes-state}
@@ -68,7 +68,7 @@ slot-other Blank o = refl
 -- ---- one byte
 
 module _ (s : List ℕ) (p : Port) (v : ℕ) (long : length s ≡ stateSize) where
-  pub stored : (t : Seat) (i : ℕ) → Within t → placeOf p t ≡ some i → i < stateSize
+  pub stored : (t : Seat) (i : ℕ) → Within t → seatPlace p t ≡ some i → i < stateSize
       → set s i (written (memoryOf s) (classOf p t) (at s i) v) ≡ bytesOf (store (stateOf s) p v t)
   unfolding Bytes.stateOf
   stored t i w e h =

@@ -6,8 +6,9 @@ use mathlib.Core.List.{map}
 use native.Mathlib.Omega.{arith}
 use borrow.Author.Needs.{needs}
 use Rattle.laws.specs.Lists.{sum}
-use Rattle.model.specs.Interrupt.{beside, countPair}
+use Rattle.model.specs.Interrupt.{countPair}
 use Rattle.model.specs.Bytes.{recordOf}
+use Rattle.record.specs.Beside.{beside}
 use Rattle.record.proofs.Laws.{count-more}
 use Rattle.record.proofs.count_beside.Statement.{statement}
 use Rattle.record.proofs.count_beside.Tie as tie

@@ -5,8 +5,9 @@ use mathlib.Core.List.{map}
 use borrow.Author.Needs.{needs}
 use Rattle.laws.proofs.Sums.{sum-append}
 use Rattle.ports.specs.Interrupt
-use Rattle.model.specs.Interrupt.{beside, countPair}
+use Rattle.model.specs.Interrupt.{countPair}
 use Rattle.model.specs.Bytes.{recordOf}
+use Rattle.record.specs.Beside.{beside}
 use Rattle.record.proofs.count_of.Statement.{statement}
 use Rattle.record.proofs.count_of.Tie as tie
 
