@@ -1,4 +1,4 @@
-/* lines.c: the lines of a script that make calls. */
+/* lines.c: the lines of a script that call a module. */
 #include "lines.h"
 
 #include "both.h"
@@ -26,24 +26,12 @@ uint64_t make(struct call call)
     return both_answer();
 }
 
-static bool numbers(struct words *words, uint64_t *first, uint64_t *second)
-{
-    return words_number(words, UINT64_MAX, first) && (!second || words_number(words, UINT64_MAX, second)) && words_end(words);
-}
-
-/* The bytes at a line's end. */
-static bool bytes_of(struct words *words, struct bytes *bytes)
-{
-    static uint8_t into[REGION];
-    return words_bytes(words, into, bytes) && words_end(words);
-}
-
 /* ---- calls of a module */
 
 bool line_reset(struct words *words, FILE *found)
 {
     struct bytes image = { now.image, now.image_len };
-    if (!words_end(words) && !bytes_of(words, &image))
+    if (!words_end(words) && !words_last_bytes(words, &image))
         return false;
     outcome_report(found, make(a_reset(image)));
     return true;
@@ -53,7 +41,7 @@ static bool samples(struct words *words, FILE *found, uint64_t times)
 {
     struct bytes bytes;
     uint64_t answer = 0;
-    if (!times || !bytes_of(words, &bytes))
+    if (!times || !words_last_bytes(words, &bytes))
         return false;
     for (uint64_t i = 0; i < times; i++)
         answer = make(a_sample(bytes));
@@ -109,7 +97,7 @@ bool line_write(struct words *words, FILE *found)
 {
     struct bytes bytes;
     uint64_t port, address;
-    if (!words_number(words, UINT64_MAX, &port) || !words_number(words, UINT64_MAX, &address) || !bytes_of(words, &bytes))
+    if (!words_number(words, UINT64_MAX, &port) || !words_number(words, UINT64_MAX, &address) || !words_last_bytes(words, &bytes))
         return false;
     outcome_write(found, make(a_write(port, address, bytes)));
     return true;
@@ -148,7 +136,7 @@ bool line_identity(struct words *words, FILE *found)
 bool line_monitor(struct words *words, FILE *found)
 {
     uint64_t number;
-    if (!numbers(words, &number, NULL))
+    if (!words_last_numbers(words, &number, NULL))
         return false;
     uint64_t kind = make(of_number(KIND, number));
     outcome_monitor(found, kind, make(of_number(VALUE, number)));
@@ -158,7 +146,7 @@ bool line_monitor(struct words *words, FILE *found)
 bool line_limits(struct words *words, FILE *found)
 {
     uint64_t quantity, limits[4];
-    if (!numbers(words, &quantity, NULL))
+    if (!words_last_numbers(words, &quantity, NULL))
         return false;
     uint64_t refusal = make(of_number(LIMITS, quantity));
     for (unsigned which = 0; which < 4; which++)
@@ -170,61 +158,8 @@ bool line_limits(struct words *words, FILE *found)
 bool line_limit(struct words *words, FILE *found)
 {
     uint64_t quantity, which;
-    if (!numbers(words, &quantity, &which))
+    if (!words_last_numbers(words, &quantity, &which))
         return false;
     outcome_limit(found, make(a_limit(quantity, which)));
-    return true;
-}
-
-/* ---- calls of a log */
-
-/* The used number goes from call to call. */
-static bool adds(FILE *found, struct call call, uint64_t times)
-{
-    uint64_t answer = 0;
-    for (uint64_t i = 0; i < times; i++) {
-        call.number = now.used;
-        answer = make(call);
-        if (!(answer & 0xff))
-            now.used = answer >> 8;
-    }
-    outcome_used(found, answer);
-    return true;
-}
-
-bool line_add(struct words *words, FILE *found)
-{
-    struct bytes bytes;
-    return bytes_of(words, &bytes) && adds(found, a_log_add(now.used, bytes), 1);
-}
-
-bool line_adds(struct words *words, FILE *found)
-{
-    struct bytes bytes;
-    uint64_t times;
-    return words_number(words, UINT64_MAX, &times) && times && bytes_of(words, &bytes) &&
-           adds(found, a_log_add(now.used, bytes), times);
-}
-
-bool line_power_up(struct words *words, FILE *found)
-{
-    return words_end(words) && adds(found, a_log_power_up(now.used), 1);
-}
-
-bool line_sample_at(struct words *words, FILE *found)
-{
-    uint64_t position;
-    if (!numbers(words, &position, NULL))
-        return false;
-    outcome_sample(found, make(a_log_sample(now.used, position)), both_state(), memory_seen());
-    return true;
-}
-
-bool line_first(struct words *words, FILE *found)
-{
-    uint64_t bit;
-    if (!numbers(words, &bit, NULL))
-        return false;
-    outcome_first(found, make(a_log_first(now.used, bit)));
     return true;
 }

@@ -1,4 +1,4 @@
-/* script.c: follows the lines of a script; those that set up are here, those that make calls in lines.c. */
+/* script.c: follows the lines of a script; those that set up are here, those that make calls in lines.c and log_lines.c. */
 #include "script.h"
 
 #include "both.h"

@@ -72,3 +72,14 @@ bool words_bytes(struct words *words, uint8_t *into, struct bytes *bytes)
     }
     return true;
 }
+
+bool words_last_numbers(struct words *words, uint64_t *first, uint64_t *second)
+{
+    return words_number(words, UINT64_MAX, first) && (!second || words_number(words, UINT64_MAX, second)) && words_end(words);
+}
+
+bool words_last_bytes(struct words *words, struct bytes *bytes)
+{
+    static uint8_t into[REGION];
+    return words_bytes(words, into, bytes) && words_end(words);
+}

@@ -20,4 +20,10 @@ bool words_byte(struct words *words, uint8_t *byte);
  * `zeros LENGTH`, vast memory. */
 bool words_bytes(struct words *words, uint8_t *into, struct bytes *bytes);
 
+/* One number, or two where a second is asked for, and then the line's end. */
+bool words_last_numbers(struct words *words, uint64_t *first, uint64_t *second);
+
+/* Bytes, and then the line's end; the next line's take their place. */
+bool words_last_bytes(struct words *words, struct bytes *bytes);
+
 #endif

@@ -6,7 +6,7 @@ use mathlib.Core.Bool.{true, false}
 use mathlib.Core.List.{List}
 use Prim.Native.Nat.{ℕ, _+_, _<_}
 use Rattle.laws.specs.Lists.{at}
-use Rattle.ports.specs.Ports.{operator, recorder, CallOf, reset, read, write, concerns}
+use Rattle.ports.specs.Ports.{Port, operator, recorder, CallOf, reset, read, write, concerns}
 use Rattle.ports.specs.Histories.{History}
 use Rattle.ports.specs.Modules.{Module, base}
 use Rattle.ports.specs.Effects.{Answer}
@@ -25,6 +25,11 @@ module _ {Image : Type 0} (M : Module Image) where
   served-runs (reported {c = c} d p) = p .state-is ∙ ap (λ (l : List ℕ). after M l c) (served-runs d)
   served-runs (reading {n = n} {a = a} {k = k} {out = out} d p) = p .state-is ∙ ap (λ (l : List ℕ). after M l (read n a k out)) (served-runs d)
   served-runs (writing {n = n} {a = a} {vs = vs} d p) = p .state-is ∙ ap (λ (l : List ℕ). after M l (write n a vs)) (served-runs d)
+
+  -- the refusals that two contracts give are those of the answers to a port
+  refusal-by : (p : Port) (c : CallOf Image) (t u : List ℕ) {r₁ r₂ : ℕ} → answerOf M t p c .refusal ≡ answerOf M u p c .refusal
+      → r₁ ≡ refusalOf M t c → r₂ ≡ refusalOf M u c → r₁ ≡ r₂
+  refusal-by p c t u e q q′ = q ∙ sym (answer-refused M t p c) ∙ e ∙ answer-refused M u p c ∙ sym q′
 
 module _ {Image : Type 0} (M : Module Image) (L : Lawful M) where
   -- a reset that keeps its contract and answers no refusal, and any calls after it
@@ -47,8 +52,7 @@ module _ {Image : Type 0} (M : Module Image) (L : Lawful M) where
 
         -- nor what the recorder is answered by its next call, and shown save on the shared list
         refusal-served : (c : CallOf Image) → concerns recorder c ≡ true → {r₁ r₂ : ℕ} → r₁ ≡ refusalOf M t c → r₂ ≡ refusalOf M u c → r₁ ≡ r₂
-        refusal-served c e p p′ =
-            p ∙ sym (answer-refused M t recorder c) ∙ rw (after-reset d, after-reset f) (agrees .refusal-same c e) ∙ answer-refused M u recorder c ∙ sym p′
+        refusal-served c e = refusal-by M recorder c t u (rw (after-reset d, after-reset f) (agrees .refusal-same c e))
 
         count-served : (c : CallOf Image) → concerns recorder c ≡ true → {x₁ x₂ : ℕ} → x₁ ≡ answerOf M t recorder c .counted → x₂ ≡ answerOf M u recorder c .counted → x₁ ≡ x₂
         count-served c e p p′ = p ∙ rw (after-reset d, after-reset f) (agrees .count-same c e) ∙ sym p′
@@ -87,8 +91,7 @@ module _ {Image : Type 0} (M : Module Image) (L : Lawful M) where
         answer-served c e = rw (after-reset d, after-reset f) (agreed .answer-same c e)
 
         refusal-of : (c : CallOf Image) → concerns operator c ≡ true → {r₁ r₂ : ℕ} → r₁ ≡ refusalOf M t c → r₂ ≡ refusalOf M u c → r₁ ≡ r₂
-        refusal-of c e p p′ =
-            p ∙ sym (answer-refused M t operator c) ∙ ap (λ (r : Answer). r .refusal) (answer-served c e) ∙ answer-refused M u operator c ∙ sym p′
+        refusal-of c e = refusal-by M operator c t u (ap (λ (r : Answer). r .refusal) (answer-served c e))
 
         count-of : (c : CallOf Image) → concerns operator c ≡ true → {x₁ x₂ : ℕ} → x₁ ≡ answerOf M t operator c .counted → x₂ ≡ answerOf M u operator c .counted → x₁ ≡ x₂
         count-of c e p p′ = p ∙ ap (λ (r : Answer). r .counted) (answer-served c e) ∙ sym p′

@@ -16,8 +16,8 @@ use Rattle.laws.proofs.Fronts.{front-agree}
 use Rattle.ports.specs.Ports.{Port, operator, recorder, nobody, caller, Places, State, CallOf, reset, sample, read, write, concerns}
 use Rattle.ports.specs.Histories.{History}
 use Rattle.ports.specs.Modules.{Module, base, stateSize, rows, refusal, accepted}
-use Rattle.ports.specs.Effects.{done, step, outputOf, answer}
-use Rattle.ports.specs.Bytes.{stateOf, bytesOf, refusalOf, after, runs}
+use Rattle.ports.specs.Effects.{Answer, done, step, outputOf, answer}
+use Rattle.ports.specs.Bytes.{stateOf, bytesOf, refusalOf, after, answerOf, runs}
 use Rattle.ports.specs.Demands.{only, fromShared, RecorderAgrees, OperatorAgrees}
 use Rattle.ports.proofs.Ports.{caller-is}
 use Rattle.ports.proofs.Histories.{Sight, undisturbed}
@@ -136,6 +136,11 @@ module _ {Image : Type 0} (M : Module Image) (L : Lawful M) where
   unfolding only runs sight
   runs-view s g p h k q = undisturbed (after M) (concerns p) (sight p) s g h k q
 
+  -- what relates the answers on the states relates those on the bytes
+  on-bytes : (s : List ℕ) → Whole s → (p : Port) (h k : History (CallOf Image)) (c : CallOf Image) (R : Answer → Answer → Type 0)
+      → R (answer M (stateOf M (runs M s h)) p c) (answer M (stateOf M (runs M s k)) p c) → R (answerOf M (runs M s h) p c) (answerOf M (runs M s k) p c)
+  on-bytes s g p h k c R r = rw (answer-long M L (runs M s h) p c (runs-length M L s h (g .0)), answer-long M L (runs M s k) p c (runs-length M L s k (g .0))) r
+
   -- a record that is the same has the same bytes
   record-bytes : (p : Port) (s t : List ℕ) → stateOf M s .own p ≡ stateOf M t .own p → (k : ℕ) → k < M .recordSize → at s (base M p + k) ≡ at t (base M p + k)
   record-bytes p s t e k h = sym (record-at M s p k h) ∙ ap (λ (f : Places). f k) e ∙ record-at M t p k h
@@ -151,16 +156,15 @@ module _ {Image : Type 0} (M : Module Image) (L : Lawful M) where
       let v = runs-view s g recorder h k q in
       let a = whole-runs s g h in
       let b = whole-runs s g k in
+      let m : State = stateOf M (runs M s h) in
+      let n : State = stateOf M (runs M s k) in
       record {
         record-same = record-bytes recorder (runs M s h) (runs M s k) (v .own-same);
         interrupt-same = ap (M .stands) (v .own-same);
-        refusal-same = λ c e. rw (answer-long M L (runs M s h) recorder c (a .0), answer-long M L (runs M s k) recorder c (b .0))
-            (unfold answer in refusal-in recorder (stateOf M (runs M s h)) (stateOf M (runs M s k)) c e (a .1) (b .1) v);
-        count-same = λ c e. rw (answer-long M L (runs M s h) recorder c (a .0), answer-long M L (runs M s k) recorder c (b .0))
-            (count-in recorder (stateOf M (runs M s h)) (stateOf M (runs M s k)) c e (a .1) (b .1) v);
-        output-same = λ c e j bare. rw (answer-long M L (runs M s h) recorder c (a .0), answer-long M L (runs M s k) recorder c (b .0))
-            (unfold answer in output-in (stateOf M (runs M s h)) (stateOf M (runs M s k)) c
-            (accepted-in recorder (stateOf M (runs M s h)) (stateOf M (runs M s k)) c e (a .1) (b .1) v) v j bare);
+        refusal-same = λ c e. on-bytes s g recorder h k c (λ x y. x .refusal ≡ y .refusal) (unfold answer in refusal-in recorder m n c e (a .1) (b .1) v);
+        count-same = λ c e. on-bytes s g recorder h k c (λ x y. x .counted ≡ y .counted) (count-in recorder m n c e (a .1) (b .1) v);
+        output-same = λ c e j bare. on-bytes s g recorder h k c (λ x y. at (x .output) j ≡ at (y .output) j)
+            (unfold answer in output-in m n c (accepted-in recorder m n c e (a .1) (b .1) v) v j bare);
       }
 
   pub operator-undisturbed : (s : List ℕ) → Whole s → (h k : History (CallOf Image)) → only operator h ≡ only operator k → OperatorAgrees M s h k
@@ -169,8 +173,7 @@ module _ {Image : Type 0} (M : Module Image) (L : Lawful M) where
       let a = whole-runs s g h in
       let b = whole-runs s g k in
       record {
-        answer-same = λ c e. rw (answer-long M L (runs M s h) operator c (a .0), answer-long M L (runs M s k) operator c (b .0))
-            (answer-in (stateOf M (runs M s h)) (stateOf M (runs M s k)) c e (a .1) (b .1) v);
+        answer-same = λ c e. on-bytes s g operator h k c (λ x y. x ≡ y) (answer-in (stateOf M (runs M s h)) (stateOf M (runs M s k)) c e (a .1) (b .1) v);
         state-same = λ i l. case (ltb i (M .memorySize))
             (λ a. let u = ltb-true i (M .memorySize) a in
             sym (memory-at M (runs M s h) i u) ∙ ap (λ (f : Places). f i) (operator-memory M v) ∙ memory-at M (runs M s k) i u)
