@@ -14,7 +14,7 @@ use Rattle.log.specs.Contracts.{sampleRefusal, Changed}
 use Rattle.question.specs.Search.{Told, refused, given, firstTold, firstRows}
 use Rattle.question.proofs.Told.{first-short, first-refused-by}
 use Rattle.log.proofs.Contracts.{changed-unique, placed-unique, changed-refused, sample-refused}
-use Rattle.packing.specs.Packing.{byteOf, refusalIn}
+use Rattle.bridge.specs.Packing.{byteOf, refusalIn}
 use Rattle.bridge.specs.Face.{upper, SamplePacked, FirstPacked, valueOfFirst}
 
 -- ---- the refusal and the value beside it are the whole answer

@@ -8,7 +8,7 @@ use native.Mathlib.Omega.{arith}
 use Rattle.model.specs.Ports.{Call, read, write}
 use Rattle.model.specs.Bytes.{refusalOf}
 use Rattle.model.proofs.Contracts.{reported-refused, read-refused, write-refused, reported-unique, read-unique, write-unique}
-use Rattle.packing.specs.Packing.{byteOf}
+use Rattle.bridge.specs.Packing.{byteOf}
 use Rattle.bridge.specs.Face.{Word32, ReportPacked, ReadPacked, WritePacked, PlacePacked, KindPacked}
 
 -- it is its four bytes

@@ -5,7 +5,7 @@ use Rattle.model.specs.Ports.{Call}
 use Rattle.model.specs.Contracts.{Reported, ReadDone, WriteDone, Located, monitorTold}
 use Rattle.log.specs.Contracts.{Added, Opened, Placed}
 use Rattle.question.specs.Search.{Told, refused, given, firstTold}
-use Rattle.packing.specs.Packing.{byteOf, refusalIn, kindIn}
+use Rattle.bridge.specs.Packing.{byteOf, refusalIn, kindIn}
 
 -- a number that C holds in an uint32_t
 abbrev pub Word32 : ℕ → Type 0

@@ -1,14 +1,16 @@
-// The C face: the calls of `module`, `readout`, `logging`, `finding` and `searching` under the names of include/zikhrodan.h, over
+// The C face: the calls of `module`, `readout`, `log_calls` and `log_first` under the names of include/zikhrodan.h, over
 // numbers and byte slices. A slice is a pointer and then a length; an answer of several numbers is packed into one.
 // Proved: each answer, and each byte left, is that of the definitions, through the calls' own contracts (specs/Face.antt).
 ghost use mathlib.Core.Path.{_≡_};
 ghost use Prim.Native.Nat.{_<_};
 ghost use Rattle.model.specs.Ports.{reset, sample};
 ghost use Rattle.model.specs.Contracts.{monitorTold, limitsTold};
-ghost use Rattle.packing.specs.Packing.{byteOf, refusalIn, valueIn, limitIn};
-ghost use Rattle.searching.specs.Meaning.{firstSays};
+ghost use Rattle.bridge.specs.Packing.{byteOf, refusalIn, valueIn, limitIn};
+ghost use Rattle.log_first.specs.Meaning.{firstSays};
 ghost use Rattle.bridge.specs.Face.{ReportPacked, ReadPacked, WritePacked, PlacePacked, KindPacked, AddPacked, OpenPacked, SamplePacked, FirstPacked, valueOfFirst, upper};
-use searching::First;
+use log_first::First;
+
+mod packing;
 
 // ---- the calls that are lent the state to change it
 
@@ -16,14 +18,14 @@ use searching::First;
 pub extern "C" fn zikhrodan_reset(state: &mut [u8], image: &[u8]) -> u32
     ensures { λ r. ⌜ ReportPacked (now (state .entry)) (reset (now (image .entry))) r (now (state .exit)) ⌝ }
 {
-    packing::report(module::reset(state, image))
+    packing::report(module::reset::reset(state, image))
 }
 
 #[no_mangle]
 pub extern "C" fn zikhrodan_sample(state: &mut [u8], x: &[u8]) -> u32
     ensures { λ r. ⌜ ReportPacked (now (state .entry)) (sample (now (x .entry))) r (now (state .exit)) ⌝ }
 {
-    packing::report(module::sample(state, x))
+    packing::report(module::sample::sample(state, x))
 }
 
 #[no_mangle]
@@ -36,14 +38,14 @@ pub extern "C" fn zikhrodan_read(
 ) -> u32
     ensures { λ r. ⌜ ReadPacked (now (state .entry)) port address count (now (out .entry)) r (now (state .exit)) (now (out .exit)) ⌝ }
 {
-    packing::answer(module::read(state, port, address, count, out))
+    packing::answer(module::read::read(state, port, address, count, out))
 }
 
 #[no_mangle]
 pub extern "C" fn zikhrodan_write(state: &mut [u8], port: u64, address: u64, bytes: &[u8]) -> u32
     ensures { λ r. ⌜ WritePacked (now (state .entry)) port address (now (bytes .entry)) r (now (state .exit)) ⌝ }
 {
-    packing::answer(module::write(state, port, address, bytes))
+    packing::answer(module::write::write(state, port, address, bytes))
 }
 
 // ---- identity
@@ -103,7 +105,7 @@ fn told(refusal: u8, n: u64) -> u64
 pub extern "C" fn zikhrodan_log_add(log: &mut [u8], used: u64, sample: &[u8]) -> u64
     ensures { λ r. ⌜ AddPacked (now (log .entry)) used (now (sample .entry)) r (now (log .exit)) ⌝ }
 {
-    let k = logging::add(log, used, sample);
+    let k = log_calls::add(log, used, sample);
     told(k.refusal, k.used)
 }
 
@@ -111,7 +113,7 @@ pub extern "C" fn zikhrodan_log_add(log: &mut [u8], used: u64, sample: &[u8]) ->
 pub extern "C" fn zikhrodan_log_power_up(log: &mut [u8], used: u64) -> u64
     ensures { λ r. ⌜ OpenPacked (now (log .entry)) used r (now (log .exit)) ⌝ }
 {
-    let k = logging::power_up(log, used);
+    let k = log_calls::power_up(log, used);
     told(k.refusal, k.used)
 }
 
@@ -119,7 +121,7 @@ pub extern "C" fn zikhrodan_log_power_up(log: &mut [u8], used: u64) -> u64
 pub extern "C" fn zikhrodan_log_sample(log: &[u8], used: u64, position: u64) -> u64
     ensures { λ r. ⌜ SamplePacked (now (log .entry)) used position r ⌝ }
 {
-    let f = finding::sample_place(log, used, position);
+    let f = log_calls::sample_place(log, used, position);
     told(f.refusal, f.start)
 }
 
@@ -149,6 +151,6 @@ fn first_value(f: First) -> u64
 pub extern "C" fn zikhrodan_log_first(log: &[u8], used: u64, bit: u64) -> u64
     ensures { λ r. ⌜ FirstPacked (now (log .entry)) used bit r ⌝ }
 {
-    let f = searching::first_with(log, used, bit);
+    let f = log_first::first_with(log, used, bit);
     told(first_refusal(f), first_value(f))
 }

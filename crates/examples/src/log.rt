@@ -1,6 +1,6 @@
 // Document 02's Ask 1 and Ask 9: a log of two blocks.
 use crate::print;
-use searching::First;
+use log_first::First;
 
 fn kept(name: &[u8], refusal: u8, used: u64) {
     print::text(name);
@@ -26,13 +26,13 @@ fn shown(block: &[u8]) {
 fn add(log: &mut [u8], used: u64, name: &[u8], status: u8) {
     let mut x = [0u8; 31];
     x[0] = status;
-    let a = logging::add(log, used, &x);
+    let a = log_calls::add(log, used, &x);
     kept(name, a.refusal, a.used);
 }
 
 fn at(log: &[u8], used: u64, position: u64) {
-    let place = finding::sample_place(log, used, position);
-    let view = finding::sample_view(log, used, position);
+    let place = log_calls::sample_place(log, used, position);
+    let view = log_calls::sample_view(log, used, position);
     print::text(b"the sample at");
     print::number(position);
     print::text(b": refusal");
@@ -48,7 +48,7 @@ fn first(log: &[u8], used: u64, bit: u64) {
     print::text(b"the first with bit");
     print::number(bit);
     print::text(b":");
-    match searching::first_with(log, used, bit) {
+    match log_first::first_with(log, used, bit) {
         First::At(position) => print::number(position),
         First::Never => print::text(b" none"),
         First::Refused(refusal) => {
@@ -61,11 +61,11 @@ fn first(log: &[u8], used: u64, bit: u64) {
 
 // Ask 1's empty block, as Ask 9 has it: 1 in byte 3, 1 in byte 504, 2 in byte 511.
 fn begin(log: &mut [u8]) {
-    let a = logging::power_up(log, 0);
+    let a = log_calls::power_up(log, 0);
     kept(b"power-up", a.refusal, a.used);
-    let b = logging::power_up(log, 1);
+    let b = log_calls::power_up(log, 1);
     kept(b"power-up", b.refusal, b.used);
-    let c = logging::power_up(log, 2);
+    let c = log_calls::power_up(log, 2);
     kept(b"power-up", c.refusal, c.used);
 }
 

@@ -4,12 +4,12 @@ use crate::print;
 // A read of one to four bytes; all four of the output memory are printed.
 fn read(state: &mut [u8], name: &[u8], port: u64, address: u64, count: u64) {
     let mut out = [0u8; 4];
-    let a = module::read(state, port, address, count, &mut out);
+    let a = module::read::read(state, port, address, count, &mut out);
     print::count(name, a.refusal, a.count, &out);
 }
 
 fn write(state: &mut [u8], name: &[u8], port: u64, address: u64, bytes: &[u8]) {
-    let a = module::write(state, port, address, bytes);
+    let a = module::write::write(state, port, address, bytes);
     print::count(name, a.refusal, a.count, b"");
 }
 
@@ -47,7 +47,7 @@ fn sample(state: &mut [u8], name: &[u8], status: u8) {
         0x27,
         0x10,
     ];
-    let a = module::sample(state, &x);
+    let a = module::sample::sample(state, &x);
     print::counts(name, a.refusal, a.operator, a.recorder);
 }
 
@@ -55,7 +55,7 @@ fn sample(state: &mut [u8], name: &[u8], status: u8) {
 
 pub fn edges(image: &[u8]) {
     let mut state = [0u8; 688];
-    module::reset(&mut state, image);
+    module::reset::reset(&mut state, image);
     read(&mut state, b"M10, read at 255 of 1", 1, 255, 1);
     read(&mut state, b"M10, read at 255 of 2", 1, 255, 2);
     write(
@@ -124,7 +124,7 @@ fn clear(state: &mut [u8]) {
 
 pub fn start_up(image: &[u8]) {
     let mut state = [0u8; 688];
-    let a = module::reset(&mut state, image);
+    let a = module::reset::reset(&mut state, image);
     print::counts(b"start-up", a.refusal, a.operator, a.recorder);
     look(&mut state);
     equalise(&mut state);

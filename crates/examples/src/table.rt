@@ -40,10 +40,10 @@ fn sampled(image: &[u8], name: &[u8], temperature: u16, supply: u16, rx1: u16, r
         0x27,
         0x10,
     ];
-    module::reset(&mut state, image);
-    let a = module::sample(&mut state, &x);
+    module::reset::reset(&mut state, image);
+    let a = module::sample::sample(&mut state, &x);
     print::counts(name, a.refusal, a.operator, a.recorder);
-    let r = module::read(&mut state, 1, 3, 12, &mut flags);
+    let r = module::read::read(&mut state, 1, 3, 12, &mut flags);
     print::count(b"  read 1 3 12", r.refusal, r.count, &flags);
     degrees(&state);
 }

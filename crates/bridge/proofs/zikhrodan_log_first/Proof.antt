@@ -1,6 +1,6 @@
 -- `bridge::zikhrodan_log_first` meets its contract.
 -- Assumes nothing.
-use Rattle.packing.specs.Packing.{refusalIn}
+use Rattle.bridge.specs.Packing.{refusalIn}
 use mathlib.Core.Path.{ap, _∙_}
 use borrow.Author.Needs.{needs}
 use Rattle.bridge.specs.Face.{valueOfFirst}

@@ -1,0 +1,66 @@
+-- `module::sample::store` meets its contract.
+-- Assumes nothing.
+use lib.ListN.{length-set}
+use borrow.Author.Needs.{needs}
+use Rattle.model.specs.Bytes.{memoryOf}
+use Rattle.module.proofs.sample.Laws.{store-all}
+use Rattle.module.proofs.sample.store.Statement.{statement}
+use Rattle.module.proofs.sample.store.Tie as tie
+
+store-tx-requires : tie.Need-store-tx-requires
+store-tx-requires c κs = search needs
+
+copy-requires : tie.Need-copy-requires
+copy-requires c κs = search needs
+
+copy-requires-2 : tie.Need-copy-requires-2
+copy-requires-2 c κs = search needs
+
+copy-requires-3 : tie.Need-copy-requires-3
+copy-requires-3 c κs = search needs
+
+copy-requires-4 : tie.Need-copy-requires-4
+copy-requires-4 c κs = search needs
+
+slice-read-state : tie.Need-slice-read-state
+slice-read-state c = search needs
+
+slice-read-state-2 : tie.Need-slice-read-state-2
+slice-read-state-2 c = search needs
+
+sub-state : tie.Need-sub-state
+sub-state c = search needs
+
+slice-write-state : tie.Need-slice-write-state
+slice-write-state c = search needs
+
+same-length : tie.Need-same-length
+same-length c = simp length-set (search needs)
+
+returns : tie.Need-returns
+returns c =
+    let c₄ = c .before .before .before .before in
+    let c₃ = c₄ .before .before .before .before in
+    let c₂ = c₃ .before .before .before .before in
+    let c₁ = c₂ .before .before .before .before in
+    let c₀ = c₁ .before .before .before .before in
+    let b = c₀ .before .before .before .before in
+    let s = b .args .state .now in
+    store-all (memoryOf s) (b .args .x .now) s (c₄ .copy4 .last .0)
+    (rw (c₄ .copy4 .ensures, c₃ .copy3 .ensures, c₂ .copy2 .ensures, c₁ .copy .ensures, c₀ .store-tx .ensures)) (b .pre .0)
+
+pub store-spec : {M : Type 1} → statement M
+store-spec =
+    tie.close
+    (tie.spec
+    store-tx-requires
+    copy-requires
+    copy-requires-2
+    copy-requires-3
+    copy-requires-4
+    slice-read-state
+    slice-read-state-2
+    sub-state
+    slice-write-state
+    same-length
+    returns)
