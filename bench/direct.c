@@ -5,7 +5,7 @@
  * that all is one translation unit, every function is static, and the compiler can inline. */
 #include "direct.h"
 
-#define LINKAGE static
+#define LINKAGE static __attribute__((unused)) /* address_of is not used here */
 #include "../tests/plain/rules.c"
 #include "../tests/plain/ports.c"
 #include "../tests/plain/refusals.c"

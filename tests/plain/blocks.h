@@ -1,5 +1,5 @@
-/* blocks.h: what document 02's Asks 1 and 9 say of the bytes of one block of a log. The rules stand in blocks.c; for LINKAGE and
- * BROKEN see rules.h. */
+/* blocks.h: what document 02's Asks 1 and 9 say of the bytes of one block of a log. The rules stand in blocks.c; for LINKAGE
+ * see rules.h. */
 #ifndef BLOCKS_H
 #define BLOCKS_H
 
@@ -26,9 +26,6 @@ LINKAGE uint32_t status_at(const uint8_t *three_bytes);
 enum { MARK = 1 };
 LINKAGE unsigned block_mark(const uint8_t *block);
 LINKAGE uint32_t block_summary(const uint8_t *block);
-
-/* Bytes 501 to 511, made to suit those before them, with a summary. */
-LINKAGE void write_ending(uint8_t *block);
 
 /* All 512 bytes of a block with this number and these samples, one right after the other: with a summary; without one. */
 LINKAGE void write_block(uint8_t *block, uint32_t number, unsigned count, const uint8_t *samples);

@@ -98,12 +98,8 @@ static uint8_t written(const struct plain *m, enum port port, unsigned place, si
 
     for (size_t i = last; i != 0; i = m->list[i].previous) {
         const struct call *c = &m->list[i];
-        if (!in_run(c, address) || (address >= 128 && place != place_of(written(m, port, 127, c->previous), address)))
-            continue;
-        uint8_t byte = c->bytes[address - c->address];
-        if (BROKEN(57) && place == 127 && !supported(m->beginning, byte))
-            continue;
-        return written_over(m->beginning, place, begun, byte);
+        if (in_run(c, address) && (address < 128 || place == place_of(written(m, port, 127, c->previous), address)))
+            return written_over(m->beginning, place, begun, c->bytes[address - c->address]);
     }
     return begun;
 }
@@ -116,11 +112,8 @@ static uint8_t raised(const struct plain *m, enum port port, unsigned flag)
 
     while (read != 0 && !in_run(&m->list[read], flag))
         read = m->list[read].previous;
-    for (size_t i = m->last[SAMPLED][0]; i > read; i = m->list[i].previous) {
+    for (size_t i = m->last[SAMPLED][0]; i > read; i = m->list[i].previous)
         flags |= m->list[i].raises[flag];
-        if (BROKEN(6))
-            return flags;
-    }
     return read != 0 ? flags : flags | m->beginning[lies_at(port, flag)];
 }
 
@@ -133,11 +126,8 @@ static void work_out_record(const struct plain *m, enum port port, uint8_t *now)
     for (unsigned mask = PAGE_03(242); mask <= PAGE_03(247); mask++)
         now[lies_at(port, mask)] = written(m, port, mask, last);
     now[lies_at(port, 127)] = written(m, port, 127, last);
-    for (unsigned flag = 3; flag <= 14; flag++) {
+    for (unsigned flag = 3; flag <= 14; flag++)
         now[lies_at(port, flag)] = raised(m, port, flag);
-        if (BROKEN(7) && flag != 8)
-            now[lies_at(port, flag)] &= (uint8_t)~now[lies_at(port, mask_of(flag))];
-    }
 }
 
 /* Only a place that the operator has written since the beginning can differ from it, so no other is looked at. */
@@ -160,7 +150,7 @@ bool work_out(const struct plain *m, uint8_t now[STATE_LEN])
 {
     size_t sample = m->last[SAMPLED][0];
 
-    if (BROKEN(13) ? m->length < STATE_LEN : m->length != STATE_LEN)
+    if (m->length != STATE_LEN)
         return false;
     memcpy(now, m->beginning, STATE_LEN);
     work_out_shared(m, now);

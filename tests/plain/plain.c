@@ -3,8 +3,6 @@
 #include "history.h"
 #include "rules.h"
 
-#include <string.h>
-
 /* The counts after an accepted call, of both ports or of one, packed as in zikhrodan.h. */
 static uint32_t both_counts(const struct plain *m)
 {
@@ -29,11 +27,11 @@ uint32_t plain_reset(struct plain *m, const uint8_t *image, size_t image_len)
     uint8_t now[STATE_LEN];
     uint32_t refusal = work_out(m, now) ? reset_refusal(image, image_len) : 1;
 
-    if (refusal == 0 || (BROKEN(37) && refusal == 10)) {
-        reset_to(now, image);
-        plain_begin(m, now, STATE_LEN);
-    }
-    return refusal ? refusal : both_counts(m);
+    if (refusal)
+        return refusal;
+    reset_to(now, image);
+    plain_begin(m, now, STATE_LEN);
+    return both_counts(m);
 }
 
 /* ---- Samples */
@@ -56,22 +54,12 @@ uint32_t plain_read(struct plain *m, uint64_t port, uint64_t address, uint64_t c
     uint8_t before[STATE_LEN];
     uint32_t refusal = work_out(m, before) ? read_refusal(before, port, address, count, out_len) : 1;
 
-    if (BROKEN(35) && refusal == 6 && out_len)
-        out[0] = 0;
     if (refusal)
         return refusal;
     append(m, READ, port, address, count, NULL);
-    if (BROKEN(1))
-        append(m, READ, 3 - port, address, count, NULL);
-    if (BROKEN(5) && address <= 2 && address + count > 2)
-        append(m, READ, port, 3, 12, NULL);
-    if (BROKEN(4))
-        work_out(m, before);
     for (uint64_t n = 0; n < count; n++)
         out[n] = seen(before, (enum port)port, (uint8_t)(address + n));
-    if (BROKEN(49))
-        memset(out + count, 0, out_len - count);
-    return BROKEN(38) ? let_through(before, (enum port)port) << 8 : one_count(m, port);
+    return one_count(m, port);
 }
 
 /* ---- Writing */
@@ -81,11 +69,10 @@ uint32_t plain_write(struct plain *m, uint64_t port, uint64_t address, const uin
     uint8_t now[STATE_LEN];
     uint32_t refusal = work_out(m, now) ? write_refusal(now, port, address, data_len) : 1;
 
-    if (refusal == 0 || (BROKEN(36) && refusal == 7))
-        append(m, WRITTEN, port, address, data_len, data);
-    if (BROKEN(56) && refusal == 0 && address < 128)
-        append(m, WRITTEN, 3 - port, address, data_len, data);
-    return refusal ? refusal : one_count(m, port);
+    if (refusal)
+        return refusal;
+    append(m, WRITTEN, port, address, data_len, data);
+    return one_count(m, port);
 }
 
 /* ---- Identity, monitors, limits */

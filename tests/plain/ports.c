@@ -9,9 +9,9 @@ uint8_t seen(const uint8_t *before, enum port port, unsigned address)
 
     if (place == 2) {
         bool pin = let_through(before, port) == 0;
-        return (uint8_t)((before[2] & (BROKEN(51) ? 0xfd : 0x05)) | (pin != BROKEN(3) ? 0x02 : 0));
+        return (uint8_t)((before[2] & 0x05) | (pin ? 0x02 : 0));
     }
-    if (place >= 119 && place <= (BROKEN(50) ? 125 : 126))
+    if (place >= 119 && place <= 126)
         return 0;
     return before[lies_at(port, place)];
 }
@@ -22,9 +22,9 @@ uint8_t seen(const uint8_t *before, enum port port, unsigned address)
 static uint8_t writable(unsigned place)
 {
     static const struct { unsigned first, last; uint8_t bits; } rows[] = {
-        {86, 86, BROKEN(52) ? 0xff : 0x0f}, {87, 88, 0xff}, {98, 98, 0xff}, {93, 93, BROKEN(53) ? 0x0f : 0x07},
-        {100, 102, 0xff}, {103, 104, BROKEN(54) ? 0xff : 0xf0}, {127, 127, 0xff},
-        {PAGE_02(128), PAGE_02(255), 0xff}, {PAGE_03(BROKEN(55) ? 233 : 234), PAGE_03(247), 0xff},
+        {86, 86, 0x0f}, {87, 88, 0xff}, {98, 98, 0xff}, {93, 93, 0x07},
+        {100, 102, 0xff}, {103, 104, 0xf0}, {127, 127, 0xff},
+        {PAGE_02(128), PAGE_02(255), 0xff}, {PAGE_03(234), PAGE_03(247), 0xff},
     };
 
     for (size_t i = 0; i < sizeof rows / sizeof rows[0]; i++)
@@ -44,7 +44,5 @@ uint8_t written_over(const uint8_t *state, unsigned place, uint8_t old, uint8_t 
 
 bool recorders_own(unsigned place)
 {
-    unsigned last = BROKEN(26) ? 105 : 104, upper = BROKEN(27) ? PAGE_03(address_of(place)) : place;
-
-    return (place >= 100 && place <= last) || place == 127 || (upper >= PAGE_03(242) && upper <= PAGE_03(247));
+    return (place >= 100 && place <= 104) || place == 127 || (place >= PAGE_03(242) && place <= PAGE_03(247));
 }

@@ -3,7 +3,7 @@
 
 uint32_t reset_refusal(const uint8_t *image, size_t image_len)
 {
-    if (BROKEN(29) ? image_len < IMAGE_LEN : image_len != IMAGE_LEN)
+    if (image_len != IMAGE_LEN)
         return 9;
     if (!check_codes_right(image + PAGE_00(128)))
         return 10;
@@ -12,11 +12,9 @@ uint32_t reset_refusal(const uint8_t *image, size_t image_len)
 
 uint32_t sample_refusal(const uint8_t *state, size_t sample_len)
 {
-    if (BROKEN(16) && sample_len != SAMPLE_LEN)
-        return 8;
-    if (!sound(state, OPERATOR) || (!sound(state, RECORDER) && !BROKEN(14)))
+    if (!sound(state, OPERATOR) || !sound(state, RECORDER))
         return 3;
-    if (BROKEN(28) ? sample_len < SAMPLE_LEN : sample_len != SAMPLE_LEN)
+    if (sample_len != SAMPLE_LEN)
         return 8;
     return 0;
 }
@@ -24,22 +22,20 @@ uint32_t sample_refusal(const uint8_t *state, size_t sample_len)
 /* "address + count above 256", as a sum that cannot overflow: the count is 1 to 128 by then. */
 static bool above_256(uint64_t address, uint64_t count)
 {
-    if (BROKEN(21))
-        return address + count > 256;
-    return address > (BROKEN(20) ? 255 : 256) - count;
+    return address > 256 - count;
 }
 
 uint32_t read_refusal(const uint8_t *state, uint64_t port, uint64_t address, uint64_t count, size_t out_len)
 {
     if (port != OPERATOR && port != RECORDER)
         return 2;
-    if (!sound(state, (enum port)port) || (BROKEN(15) && !sound(state, OPERATOR)))
+    if (!sound(state, (enum port)port))
         return 3;
-    if ((count == 0 && !BROKEN(17)) || count > (BROKEN(18) ? 129 : 128))
+    if (count == 0 || count > 128)
         return 4;
-    if (above_256(address, count) || (BROKEN(23) && address <= 127 && address + count > 128))
+    if (above_256(address, count))
         return 5;
-    if (BROKEN(24) ? out_len <= count : out_len < count)
+    if (out_len < count)
         return 6;
     return 0;
 }
@@ -58,11 +54,9 @@ uint32_t write_refusal(const uint8_t *state, uint64_t port, uint64_t address, ui
         return 2;
     if (!sound(state, (enum port)port))
         return 3;
-    if (count == 0 || count > (BROKEN(19) ? 5 : 4))
+    if (count == 0 || count > 4)
         return 4;
-    if (BROKEN(25) && port == RECORDER && touches_not_its_own(state, address, count))
-        return 7;
-    if (above_256(address, count) || (address <= (BROKEN(22) ? 126 : 127) && address + count - 1 >= 128))
+    if (above_256(address, count) || (address <= 127 && address + count - 1 >= 128))
         return 5;
     if (port == RECORDER && touches_not_its_own(state, address, count))
         return 7;

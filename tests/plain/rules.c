@@ -44,9 +44,9 @@ bool supported(const uint8_t *state, unsigned page)
 
     switch (page) {
     case 0: return true;
-    case 1: return !flat && (options & (BROKEN(8) ? 0x80 : 0x40));
-    case 2: return !flat && (options & (BROKEN(8) ? 0x40 : 0x80));
-    case 3: return !flat || BROKEN(9);
+    case 1: return !flat && (options & 0x40);
+    case 2: return !flat && (options & 0x80);
+    case 3: return !flat;
     default: return false;
     }
 }
@@ -54,22 +54,21 @@ bool supported(const uint8_t *state, unsigned page)
 bool sound(const uint8_t *state, enum port port)
 {
     static const struct { unsigned place; uint8_t zero_bits; } rows[] = {
-        {8, BROKEN(11) ? 0 : 0xff}, {6, 0x0f}, {7, 0x0f}, {103, 0x0f}, {104, BROKEN(12) ? 0x0e : 0x0f},
+        {8, 0xff}, {6, 0x0f}, {7, 0x0f}, {103, 0x0f}, {104, 0x0f},
     };
     uint8_t page = state[lies_at(port, 127)];
 
     for (size_t i = 0; i < sizeof rows / sizeof rows[0]; i++)
         if (state[lies_at(port, rows[i].place)] & rows[i].zero_bits)
             return false;
-    return supported(state, page) || (BROKEN(10) && page <= 3);
+    return supported(state, page);
 }
 
 /* ---- The count */
 
-unsigned mask_of(unsigned flag)
+/* The place of the mask that serves a flag byte, 3 to 7 or 9 to 14. */
+static unsigned mask_of(unsigned flag)
 {
-    if (BROKEN(39) && (flag == 6 || flag == 7))
-        return flag == 6 ? 104 : 103;
     return flag <= 7 ? 100 + (flag - 3) : PAGE_03(242) + (flag - 9);
 }
 
@@ -97,19 +96,19 @@ static uint8_t sum(const uint8_t *page, unsigned first, unsigned last)
 
 bool check_codes_right(const uint8_t *page)
 {
-    return page[191 - 128] == sum(page, 128, 190) && (page[223 - 128] == sum(page, 192, 222) || BROKEN(30));
+    return page[191 - 128] == sum(page, 128, 190) && page[223 - 128] == sum(page, 192, 222);
 }
 
 void reset_to(uint8_t *state, const uint8_t *image)
 {
     static const struct { unsigned first, last; } zero[] = {
-        {3, 14}, {22, BROKEN(42) ? 56 : 57}, {100, 104}, {119, 127}, {PAGE_03(242), PAGE_03(247)},
+        {3, 14}, {22, 57}, {100, 104}, {119, 127}, {PAGE_03(242), PAGE_03(247)},
         {RECORD(OPERATOR), RECORD(RECORDER) + 23},
     };
 
-    memcpy(state, image, BROKEN(40) ? IMAGE_LEN : PAGE_02(128));
+    memcpy(state, image, PAGE_02(128));
     memcpy(state + PAGE_03(128), image + PAGE_03(128), PAGE_LEN);
-    state[2] = (image[2] & (BROKEN(41) ? 0xff : 0x04)) | 0x01;
+    state[2] = (image[2] & 0x04) | 0x01;
     for (size_t i = 0; i < sizeof zero / sizeof zero[0]; i++)
         memset(state + zero[i].first, 0, zero[i].last - zero[i].first + 1);
 }
@@ -140,19 +139,18 @@ int number(unsigned quantity, const uint8_t *two_bytes)
 void store_numbers(uint8_t *state, const uint8_t *sample)
 {
     for (unsigned q = 0; q < 5; q++)
-        if (q != TX_POWER || tx_power_offered(state) || BROKEN(43))
+        if (q != TX_POWER || tx_power_offered(state))
             memcpy(state + QUANTITIES[q].stored_at, sample + QUANTITIES[q].sample_at, 2 * QUANTITIES[q].channels);
-    state[2] &= BROKEN(45) ? 0xff : 0xfe;
+    state[2] &= 0xfe;
 }
 
 /* The four conditions of a number: high alarm in bit 3, low alarm, high warning, low warning in bit 0. */
 static unsigned four(const uint8_t *state, unsigned quantity, const uint8_t *two_bytes)
 {
     const uint8_t *limits = state + QUANTITIES[quantity].limits_at;
-    unsigned as = BROKEN(2) ? SUPPLY : quantity;
-    int value = number(as, two_bytes);
-    bool high_alarm = value + BROKEN(46) > number(as, limits), low_alarm = value - BROKEN(47) < number(as, limits + 2);
-    bool high_warning = value > number(as, limits + 4), low_warning = value < number(as, limits + 6);
+    int value = number(quantity, two_bytes);
+    bool high_alarm = value > number(quantity, limits), low_alarm = value < number(quantity, limits + 2);
+    bool high_warning = value > number(quantity, limits + 4), low_warning = value < number(quantity, limits + 6);
 
     return high_alarm * 8u + low_alarm * 4u + high_warning * 2u + low_warning * 1u;
 }
@@ -170,7 +168,7 @@ uint8_t conditions(const uint8_t *state, const uint8_t *sample, unsigned flag)
 
     unsigned quantity = RX_POWER + (flag - 9) / 2;
     const uint8_t *odd = sample + QUANTITIES[quantity].sample_at + (flag - 9) % 2 * 4, *even = odd + 2;
-    if (quantity == TX_POWER && !tx_power_offered(state) && !BROKEN(44))
+    if (quantity == TX_POWER && !tx_power_offered(state))
         return 0;
-    return (uint8_t)(four(state, quantity, BROKEN(48) ? even : odd) << 4 | four(state, quantity, BROKEN(48) ? odd : even));
+    return (uint8_t)(four(state, quantity, odd) << 4 | four(state, quantity, even));
 }

@@ -9,12 +9,6 @@
 #include <stddef.h>
 #include <stdint.h>
 
-/* With -DBREAK=n the engine is wrong in the one way that breaks.txt has under n, to see that the tests find it; 0 is right. */
-#ifndef BREAK
-#define BREAK 0
-#endif
-#define BROKEN(n) (BREAK == (n))
-
 /* `static` in a program that includes the sources of the rules and does not link them: bench/direct.c. */
 #ifndef LINKAGE
 #define LINKAGE
@@ -45,9 +39,6 @@ LINKAGE bool supported(const uint8_t *state, unsigned page);
 LINKAGE bool sound(const uint8_t *state, enum port port);
 
 /* ---- The count */
-
-/* The place of the mask that serves a flag byte, 3 to 7 or 9 to 14. */
-LINKAGE unsigned mask_of(unsigned flag);
 
 /* The number of raised flags that the port's masks let through. */
 LINKAGE unsigned let_through(const uint8_t *state, enum port port);

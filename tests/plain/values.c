@@ -6,7 +6,7 @@
 
 static bool sound_page(const uint8_t *page, size_t len)
 {
-    return (BROKEN(58) ? len >= PAGE_LEN : len == PAGE_LEN) && check_codes_right(page);
+    return len == PAGE_LEN && check_codes_right(page);
 }
 
 uint32_t identity_field(const uint8_t *live, size_t live_len, const uint8_t *factory, size_t factory_len, uint64_t field)
@@ -14,19 +14,17 @@ uint32_t identity_field(const uint8_t *live, size_t live_len, const uint8_t *fac
     static const struct { unsigned first, last; } fields[7] = {
         [1] = {148, 163}, {165, 167}, {168, 183}, {184, 185}, {196, 211}, {212, 219},
     };
-    bool use_live = sound_page(live, live_len), no_such_field = field < 1 || field > (BROKEN(32) ? 5 : 6);
+    bool use_live = sound_page(live, live_len);
 
-    if (no_such_field && !BROKEN(31))
+    if (field < 1 || field > 6)
         return 12;
     if (!use_live && !sound_page(factory, factory_len))
         return 11;
-    if (no_such_field)
-        return 12;
 
     const uint8_t *page = use_live ? live : factory;
     unsigned start = fields[field].first - 128, length = fields[field].last - fields[field].first + 1;
-    if (field != 2 || BROKEN(60))
-        while (length > 0 && (page[start + length - 1] == 0x20 || (BROKEN(59) && page[start + length - 1] == 0)))
+    if (field != 2)
+        while (length > 0 && page[start + length - 1] == 0x20)
             length--;
     return (use_live ? 1u : 2u) << 8 | start << 16 | length << 24;
 }
@@ -34,7 +32,7 @@ uint32_t identity_field(const uint8_t *live, size_t live_len, const uint8_t *fac
 /* ---- Monitors and limits. The kinds are zikhrodan.h's: degrees, volts, milliwatts, milliamperes. */
 
 static const struct { uint32_t kind; double divisor; } UNITS[5] = {
-    [TEMPERATURE] = {1, 256}, [SUPPLY] = {2, 10000}, [RX_POWER] = {3, 10000}, [TX_BIAS] = {4, BROKEN(61) ? 1000 : 500},
+    [TEMPERATURE] = {1, 256}, [SUPPLY] = {2, 10000}, [RX_POWER] = {3, 10000}, [TX_BIAS] = {4, 500},
     [TX_POWER] = {3, 10000},
 };
 
@@ -55,14 +53,14 @@ static unsigned channel_of(uint64_t monitor)
 
 static bool no_such_monitor(uint64_t monitor)
 {
-    return monitor > (BROKEN(33) ? 12 : 13);
+    return monitor > 13;
 }
 
 static bool measured(const uint8_t *state, uint64_t monitor)
 {
-    bool data_not_ready = (state[2] & 0x01) != 0 && !BROKEN(62);
+    bool data_not_ready = (state[2] & 0x01) != 0;
 
-    return !data_not_ready && (quantity_of(monitor) != TX_POWER || tx_power_offered(state) || BROKEN(63));
+    return !data_not_ready && (quantity_of(monitor) != TX_POWER || tx_power_offered(state));
 }
 
 uint32_t kind_of_monitor(const uint8_t *state, uint64_t monitor)
@@ -81,7 +79,7 @@ double value_of_monitor(const uint8_t *state, uint64_t monitor)
 
 uint32_t refusal_of_limits(uint64_t quantity)
 {
-    return quantity > (BROKEN(34) ? 3 : 4) ? 13 : 0;
+    return quantity > 4 ? 13 : 0;
 }
 
 /* The limits are in the thresholds' order: high alarm 0, low alarm 1, high warning 2, low warning 3. */
@@ -89,5 +87,5 @@ double limit_of(const uint8_t *state, uint64_t quantity, uint64_t which)
 {
     if (refusal_of_limits(quantity) || which > 3)
         return 0.0;
-    return in_its_unit((unsigned)quantity, state + QUANTITIES[quantity].limits_at + 2 * (BROKEN(64) ? 3 - which : which));
+    return in_its_unit((unsigned)quantity, state + QUANTITIES[quantity].limits_at + 2 * which);
 }
