@@ -1,5 +1,5 @@
--- Blocks: what a sound block says of its places, and that a block that is written is sound and has the number and the samples it
--- should.
+-- What a sound block says of its places; and a block that is written is sealed (Sealed.antt), so it is sound if its count and its unused
+-- room are right, and its number and its samples are read off the places before byte 501.
 -- Assumes nothing.
 use mathlib.Core.Path.{_≡_, refl, sym, ap, _∙_}
 use mathlib.Core.Logic.{_≢_}

@@ -1,4 +1,5 @@
--- A sound block of which any one byte is changed is unsound: the sum tells it, or the check itself differs from the sum.
+-- A sound block of which any one byte is changed is unsound: a byte before 510 changes the sum by less than 256 and leaves the check, and
+-- a byte of the check leaves the sum.
 -- Assumes nothing.
 use mathlib.Core.Path.{_≡_, sym, ap, _∙_}
 use mathlib.Core.Logic.{_≢_}

@@ -1,4 +1,5 @@
--- Document 02, Ask 1 and Ask 9: blocks, computed. The asks' own empty block, and which bytes 501 to 509 a block may have.
+-- Document 02, Ask 1 and Ask 9: blocks, computed: the asks' own empty block, and which bytes 501 to 509 a block may have. Whether a block
+-- is sound is computed by a test that goes along its bytes (`sound-in-turn`).
 -- Assumes nothing.
 use mathlib.Core.Path.{_≡_, refl, sym, _∙_}
 use mathlib.Core.Bool.{Bool, true, false, _&&_}

@@ -1,4 +1,5 @@
--- A sealed block: its end goes by the places before byte 501 alone, and is what the end of a sound block must be.
+-- A sealed block: its end is worked out from the places before byte 501 alone (`sealed-same`), and sealing leaves these as they were. So
+-- worked out again from the block itself it is the same, which is what soundness asks of an end.
 -- Assumes nothing.
 use mathlib.Core.Path.{_≡_, refl, sym, ap, _∙_}
 use mathlib.Core.Bool.{true}

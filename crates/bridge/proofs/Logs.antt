@@ -1,4 +1,5 @@
--- The C face of a log: any two outcomes that a contract allows are equal, and a refused call answers its refusal's number alone.
+-- The C face of a log: an answer is its lowest byte and what stands above it, so two that a contract allows are equal, as the outcomes
+-- inside are, and a refused call, with 0 above it, answers its number alone. A position, below a 32nd of the memory's length, is not cut.
 -- Assumes nothing.
 use mathlib.Core.Path.{_≡_, refl, sym, _∙_}
 use mathlib.Core.Logic.{_≢_, _↔_}
@@ -12,7 +13,7 @@ use Rattle.laws.specs.Tests.{Row, firstOf}
 use Rattle.laws.proofs.Tests.{case}
 use Rattle.log.specs.Contracts.{sampleRefusal, Changed}
 use Rattle.question.specs.Search.{Told, refused, given, firstTold, firstRows}
-use Rattle.question.proofs.Told.{first-short, first-refused-by}
+use Rattle.question.proofs.AnyMemory.{first-short, first-refused-by}
 use Rattle.log.proofs.Contracts.{changed-unique, placed-unique, changed-refused, sample-refused}
 use Rattle.bridge.specs.Packing.{byteOf, refusalIn}
 use Rattle.bridge.specs.Face.{upper, SamplePacked, FirstPacked, valueOfFirst}

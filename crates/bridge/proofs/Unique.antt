@@ -1,4 +1,5 @@
--- Any two outcomes that a contract of the C face allows are equal; and a refused call answers its refusal's number alone.
+-- The C face: a number of 32 bits is its four bytes, so two answers that a contract allows are equal, as the outcomes inside are; and the
+-- bytes above a refusal are 0, so a refused call answers its refusal's number alone.
 -- Assumes nothing.
 use mathlib.Core.Path.{_≡_, sym, _∙_}
 use mathlib.Core.Logic.{_≢_}
@@ -11,7 +12,7 @@ use Rattle.model.proofs.Contracts.{reported-refused, read-refused, write-refuse
 use Rattle.bridge.specs.Packing.{byteOf}
 use Rattle.bridge.specs.Face.{Word32, ReportPacked, ReadPacked, WritePacked, PlacePacked, KindPacked}
 
--- it is its four bytes
+-- a number of 32 bits is its four bytes
 bytes-are : (x : ℕ) → Word32 x → x ≡ byteOf 0 x + 256 * byteOf 1 x + 65536 * byteOf 2 x + 16777216 * byteOf 3 x
 bytes-are x h = omega arith
 

@@ -1,4 +1,5 @@
--- Laws of single bits.
+-- Single bits: bit j is the lowest digit after a shift by j, so that and, or and exclusive or are taken digit by digit. A splice at k is
+-- known by its remainder and its quotient by 2 ^ k, which have the bits below k and the others.
 -- Assumes nothing.
 use mathlib.Core.Path.{_≡_, refl, sym, ap, _∙_}
 use mathlib.Core.Bool.{true, false, not, _&&_, _||_}

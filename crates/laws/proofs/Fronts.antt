@@ -1,4 +1,5 @@
--- Laws of the front of a list: its first n places replaced, once and again.
+-- The front of a list, its first n places, replaced once and again: what is put there last stands there, though it may be worked out from
+-- what stood there before. So several such steps are one, shown inside the front and past it.
 -- Assumes nothing.
 use mathlib.Core.Path.{_≡_, refl, ap, _∙_}
 use mathlib.Core.Bool.{true}

@@ -1,4 +1,5 @@
--- Laws of lists by what stands at each place: tables, a run of places replaced, parts.
+-- Lists by what stands at each place: that of a table goes by recursion, and a list with a table's length and places is the table. A run
+-- of places replaced is a table too, so what is said of it is shown inside the run and outside it.
 -- Assumes nothing.
 use mathlib.Core.Path.{_≡_, refl, sym, ap, _∙_}
 use mathlib.Core.Logic.{_≢_}

@@ -1,4 +1,4 @@
--- The ones of a number, bit by bit.
+-- The ones of a number are the sum of its bits: the lowest bit, and the ones of the half.
 -- Assumes nothing.
 use mathlib.Core.Path.{_≡_, ap, _∙_}
 use mathlib.Core.List.{map}

@@ -1,4 +1,5 @@
--- Laws of parts and tables: two that agree place by place, the part of a tail or of a part, a part that comes back, the front as a table.
+-- Parts of lists, and tables: lists of one length that agree at each place are equal, so each law but `part-tail` works out what stands
+-- at a place of both.
 -- Assumes nothing.
 use mathlib.Core.Path.{_≡_, sym, ap, _∙_}
 use mathlib.Core.List.{List, _++_}

@@ -1,4 +1,5 @@
--- Laws of lists that are picked from others: numbers in a row, the elements that pass a test, all pairs of two lists.
+-- Lists that are picked from others (numbers in a row, the elements that pass a test, all pairs of two lists): along the list, an element
+-- is a member exactly if it should be, and lengths and sums add up. That none stands twice is told by a number that rises.
 -- Assumes nothing.
 use mathlib.Core.Path.{_≡_, refl, sym, ap, _∙_}
 use mathlib.Core.Logic.{_≢_, ⊎-elim, ∥∥₁-elim}

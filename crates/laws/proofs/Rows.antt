@@ -1,5 +1,5 @@
--- Laws of the first row that applies: each number is given exactly when its own test passes and no earlier one does, and where
--- the numbers rise it is the lowest of those that apply.
+-- The first row that applies, by going along the rows: a row's number is given exactly when its test passes and no earlier one's does,
+-- since no later row has that number. Where the numbers rise it is the lowest of those that apply, since all later ones are above it.
 -- Assumes nothing.
 use mathlib.Core.Path.{_≡_, refl, sym, ap, _∙_}
 use mathlib.Core.Logic.{_↔_, _≢_}

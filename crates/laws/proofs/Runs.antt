@@ -1,4 +1,5 @@
--- Laws of several runs of places that are replaced one after the other.
+-- Several runs of places replaced one after the other, by one function: a place in any of them holds the function's number for it, so
+-- their order makes no difference.
 -- Assumes nothing.
 use mathlib.Core.Path.{_≡_, refl, _∙_}
 use mathlib.Core.Bool.{Bool, true, false, _&&_, _||_, Bool·beq}

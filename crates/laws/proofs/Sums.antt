@@ -1,4 +1,4 @@
--- Laws of sums.
+-- Sums, by one element more at the front or at the end.
 -- Assumes nothing.
 use mathlib.Core.Path.{_≡_, refl, sym}
 use mathlib.Core.List.{List, [], _∷_, _++_, map, List·Memᴰ, List·Memᴰ·head, List·Memᴰ·tail}
@@ -37,7 +37,7 @@ unfolding sum
 sum-same f g [] e = refl
 sum-same f g (x ∷ xs) e = let u = e x (List·Memᴰ·head refl) in let v = sum-same f g xs (λ y m. e y (List·Memᴰ·tail m)) in omega arith
 
--- a sum is at most its greatest part for each element
+-- a sum of numbers none of which is above k
 pub sum-le : {A : Type 0} (f : A → ℕ) (l : List A) (k : ℕ) → ((x : A) → f x ≤ k) → sum (map f l) ≤ length l * k
 unfolding sum
 sum-le f [] k h = omega arith

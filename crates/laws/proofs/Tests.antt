@@ -1,4 +1,5 @@
--- Laws of choices by a test, of `and` and `or`, and of numbers against a run.
+-- Choices by a test, `and` and `or`, numbers against a run: what is said of Booleans goes by their cases, and a test of numbers is turned
+-- into a fact of numbers, which arithmetic settles, and back.
 -- Assumes nothing.
 use mathlib.Core.Path.{_≡_, refl, sym, _∙_}
 use mathlib.Core.Bool.{Bool, true, false, not, true≢false, _&&_, _||_, and-false, Bool·beq}

@@ -19,7 +19,7 @@ use Rattle.block.specs.Block.{blockSize, sampleSize, number, count, mostSamples
 use Rattle.log.specs.Log.{blocks, block, samples, lastNumber, needsNew, put, newBlock, afterAdd, usedAfter, wrongSample, unsound, noneLeft, addRows, Fit}
 use Rattle.log.specs.Contracts.{addRefusal}
 use Rattle.block.proofs.Blocks.{fresh-length, fresh-count, fresh-samples, fresh-sound, grown-length, grown-number, grown-samples, grown-sound}
-use Rattle.log.proofs.Logs.{sound-less, sound-block, sound-follows, put-length, put-else, put-here}
+use Rattle.log.proofs.BlockByBlock.{sound-less, sound-block, sound-follows, put-length, put-else, put-here}
 use Rattle.log.proofs.Fits.{fit, Next, next-of, next-new, put-fit, put-samples}
 use Rattle.log.proofs.PowerUps.{left-over, new-number}
 
@@ -130,7 +130,8 @@ module _ (log : List ℕ) (used : ℕ) (x : List ℕ) (taken : addRefusal log us
   at-last : (n : ℕ) → used ≡ suc n → Fit log (suc n)
   at-last n e = rw e at was
 
-  -- the log that is left is sound; its samples are the old ones and then this one; numbers rise by one
+  -- the log that is left is sound; its samples are the old ones and then this one; its last number is the old one, or with a new block one
+  -- more
   pub add-sound : Bytes log → Fit (afterAdd log used x) (usedAfter log used)
   unfolding first more
   add-sound bytes = add-elim log used x Fit free (λ t l. new-fit log used x bytes was long l) (λ n e t r. last-fit log n x (at-last n e) long r)

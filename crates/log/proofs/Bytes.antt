@@ -1,4 +1,4 @@
--- Memory of bytes stays memory of bytes.
+-- Memory of bytes stays memory of bytes, since each block that is put is one of bytes.
 -- Assumes nothing.
 use mathlib.Core.Path.{_≡_}
 use mathlib.Core.Bool.{false, _&&_}
@@ -13,7 +13,7 @@ use Rattle.block.specs.Block.{blockSize, grown, Bytes}
 use Rattle.log.specs.Log.{block, needsNew, noneLeft, put, newBlock, afterPowerUp, afterAdd, lastNumber, Fit}
 use Rattle.block.proofs.Blocks.{fresh-count}
 use Rattle.block.proofs.Bytes.{bytes-table, bytes-fresh, bytes-grown}
-use Rattle.log.proofs.Logs.{bytes-block}
+use Rattle.log.proofs.BlockByBlock.{bytes-block}
 use Rattle.log.proofs.Adds.{add-elim}
 
 pub bytes-put : (log : List ℕ) (i : ℕ) (b : List ℕ) → Bytes log → Bytes b → Bytes (put log i b)

@@ -1,5 +1,5 @@
--- The contracts of the calls on a log: what a refused and what an accepted call owe them, and that any two outcomes that a contract
--- allows are equal.
+-- The contracts of the calls on a log: each is an equation with the definitions for each thing that is left or answered. So two outcomes
+-- are equal through the definitions, a refused call owes its refusal alone, and an accepted one the block that it puts.
 -- Assumes nothing.
 use mathlib.Core.Path.{_≡_, sym, _∙_}
 use mathlib.Core.Logic.{_≢_}
@@ -65,7 +65,7 @@ pub shown-unique : {log : RefT (List ℕ)} {used k : ℕ} {r₁ r₂ : RefT (Lis
     → (now r₁ ≡ now r₂) × (sampleRefusal (now log) used k ≡ 0 → ptr r₁ ≡ ptr r₂)
 shown-unique p q = (p .bytes-are ∙ sym (q .bytes-are), λ e. p .place-is e ∙ sym (q .place-is e))
 
--- ---- the used number after a call is one of the blocks that there are
+-- ---- there are as many blocks as the used number after a call
 
 pub added-fits : (log : List ℕ) (used : ℕ) (x : List ℕ) {r n : ℕ} {t : List ℕ} → Added log used x r n t → blockSize * n ≤ length log
 added-fits log used x {r} {n} p = case (eqb (addRefusal log used x) 0)

@@ -14,7 +14,7 @@ use Rattle.laws.proofs.Parts.{part-set}
 use Rattle.block.specs.Block.{blockSize, soundBlock, Bytes}
 use Rattle.block.proofs.Damage.{block-damaged}
 use Rattle.log.specs.Log.{block, unsound, Fit}
-use Rattle.log.proofs.Logs.{sound-block, bytes-block}
+use Rattle.log.proofs.BlockByBlock.{sound-block, bytes-block}
 use Rattle.log.proofs.Fits.{fit}
 
 pub damage-seen : (log : List ℕ) (used : ℕ) → Fit log used → Bytes log → (i v : ℕ) → i < blockSize * used → v < 256 → v ≢ at log i → unsound (set log i v) used ≡ true

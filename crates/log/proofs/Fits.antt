@@ -1,4 +1,5 @@
--- A log that is not refused 15, and that it stays so with the next block put after its used ones, or with its last block put anew.
+-- A log that is not refused 15. It stays so with a block put after its first n that is sound and whose number follows, since the n before
+-- it stay as they were. (The last block put anew is one put after those before it.)
 -- Assumes nothing.
 use mathlib.Core.Path.{_≡_, refl, ap, _∙_}
 use mathlib.Core.Bool.{true, false, not}
@@ -11,7 +12,7 @@ use borrow.Author.Tests.{eqb-true, ltb-false, le-ltb, eq-eqb, not-false}
 use Rattle.laws.proofs.Tests.{and-both, or-left, or-right}
 use Rattle.block.specs.Block.{blockSize, number, samplesIn, soundBlock}
 use Rattle.log.specs.Log.{blocks, block, follows, sound, samples, lastNumber, put, misfit, unsound, Fit}
-use Rattle.log.proofs.Logs.{sound-same, samples-same, put-length, put-here, put-other}
+use Rattle.log.proofs.BlockByBlock.{sound-same, samples-same, put-length, put-here, put-other}
 
 -- ---- 15
 

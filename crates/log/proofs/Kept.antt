@@ -1,5 +1,5 @@
--- What is kept: over any series of calls on a sound log, refused or not, the log is sound, its samples are those that it had and the
--- accepted ones in their order, and its numbers rise. And reading hands back these, each at its position.
+-- What is kept over any series of calls on a sound log, call by call: a refused one leaves all as it was, an accepted power-up adds no
+-- sample and an accepted add one at the end. So reading hands back the samples that were there and the accepted ones, in their order.
 -- Assumes nothing.
 use mathlib.Core.Path.{_≡_, refl, ap, _∙_}
 use mathlib.Core.List.{List, [], _∷_, _++_}

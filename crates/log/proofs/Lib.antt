@@ -1,4 +1,4 @@
-pub mod Logs
+pub mod BlockByBlock
 pub mod Fits
 pub mod PowerUps
 pub mod Adds

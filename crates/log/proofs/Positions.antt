@@ -1,5 +1,5 @@
--- Document 02, Ask 1: positions. Where the sample at a position lies, that those bytes are that sample of the list, and the walk over
--- the used blocks that finds it.
+-- Document 02, Ask 1: positions. By the used blocks, the last one last: a position below the samples of those before it lies in one of
+-- these, and else in the last, as far into it as the position is above them. So the bytes at its place are that sample of the list.
 -- Assumes nothing.
 use mathlib.Core.Path.{_≡_, sym, ap, _∙_}
 use mathlib.Core.Bool.{true}
@@ -18,11 +18,11 @@ use Rattle.block.specs.Block.{blockSize, sampleSize, count, slot, samplesIn}
 use Rattle.log.specs.Log.{blocks, block, sound, samples, total, placeOf, Fit}
 use Rattle.log.specs.Contracts.{sampleRefusal, Placed}
 use Rattle.block.proofs.Blocks.{sound-count, samples-length, samples-at}
-use Rattle.log.proofs.Logs.{sound-less, sound-block, total-more}
+use Rattle.log.proofs.BlockByBlock.{sound-less, sound-block, total-more}
 use Rattle.log.proofs.Fits.{fit-sound}
 
 module _ (log : List ℕ) where
-  -- the walk: before block n there are fewer samples, with it there are enough
+  -- the walk: before block n there are at most k samples, with it more
   pub place-found : (used n k : ℕ) → n < used → total log n ≤ k → k < total log n + count (block log n)
       → (k < total log used) × (placeOf log used k ≡ blockSize * n + slot (k - total log n))
   unfolding placeOf

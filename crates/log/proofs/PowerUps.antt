@@ -17,7 +17,7 @@ use Rattle.block.specs.Block.{blockSize, number, Bytes}
 use Rattle.log.specs.Log.{blocks, samples, lastNumber, needsNew, newBlock, afterPowerUp, unsound, noneLeft, powerUpRows, Fit}
 use Rattle.log.specs.Contracts.{powerUpRefusal}
 use Rattle.block.proofs.Blocks.{fresh-length, fresh-count, fresh-samples, fresh-sound, fresh-number}
-use Rattle.log.proofs.Logs.{put-length, put-else, put-here, bytes-block}
+use Rattle.log.proofs.BlockByBlock.{put-length, put-else, put-here, bytes-block}
 use Rattle.log.proofs.Fits.{fit, next-new, put-fit, put-samples}
 
 -- the last used block's number, where it is not the last of all

@@ -18,7 +18,7 @@ use Rattle.log.specs.Contracts.{addRefusal, powerUpRefusal}
 use Rattle.block.specs.Examples.{firstOpened}
 use Rattle.block.proofs.Blocks.{fresh-length}
 use Rattle.block.proofs.Examples.{first-block}
-use Rattle.log.proofs.Logs.{put-here}
+use Rattle.log.proofs.BlockByBlock.{put-here}
 
 -- ---- in the ask's order
 

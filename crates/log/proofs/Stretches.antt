@@ -1,5 +1,5 @@
--- A stretch of a log is a log: past m blocks of a sound one the rest is sound, has the rest of the samples, and takes a sample or a
--- power-up as the whole does. So whoever has looked at the whole once need not look at it again for every sample.
+-- A stretch of a log is a log: past m blocks of a sound one the rest is sound, and its last block, by which the calls go, is the whole's.
+-- So it takes a sample or a power-up as the whole does, and whoever has looked at the whole once need not do so for every sample.
 -- Assumes nothing.
 use mathlib.Core.Path.{_≡_, refl, sym, ap, _∙_}
 use mathlib.Core.Bool.{true, false, _&&_, _||_}
@@ -18,7 +18,7 @@ use Rattle.laws.proofs.Parts.{part-part, part-tail}
 use Rattle.block.specs.Block.{blockSize, number, count, fresh, grown}
 use Rattle.log.specs.Log.{blocks, block, sound, samples, lastNumber, needsNew, put, newBlock, afterPowerUp, afterAdd, usedAfter, wrongSample, unsound, noneLeft, Fit}
 use Rattle.log.specs.Contracts.{addRefusal, powerUpRefusal}
-use Rattle.log.proofs.Logs.{sound-same, samples-same, stretch-block, stretch-samples, stretch-sound}
+use Rattle.log.proofs.BlockByBlock.{sound-same, samples-same, stretch-block, stretch-samples, stretch-sound}
 use Rattle.log.proofs.Fits.{fit-sound}
 
 module _ (log : List ℕ) (m n : ℕ) (was : Fit log (m + suc n)) where

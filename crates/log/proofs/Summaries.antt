@@ -9,7 +9,7 @@ use Rattle.block.specs.Block.{count, mostSamples, hasSummary, grown}
 use Rattle.log.specs.Log.{block, newBlock, afterPowerUp, afterAdd, usedAfter}
 use Rattle.log.specs.Contracts.{addRefusal, powerUpRefusal}
 use Rattle.block.proofs.Blocks.{fresh-length, fresh-count, fresh-summary, grown-length, grown-summary}
-use Rattle.log.proofs.Logs.{put-here}
+use Rattle.log.proofs.BlockByBlock.{put-here}
 use Rattle.log.proofs.PowerUps.{left-over, power-up-room}
 use Rattle.log.proofs.Adds.{add-elim, add-taken}
 

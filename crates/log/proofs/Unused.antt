@@ -15,7 +15,7 @@ use Rattle.block.specs.Block.{blockSize, grown}
 use Rattle.log.specs.Log.{block, samples, lastNumber, needsNew, put, newBlock, afterPowerUp, afterAdd, usedAfter}
 use Rattle.log.specs.Contracts.{addRefusal, powerUpRefusal, sampleRefusal}
 use Rattle.block.proofs.Blocks.{fresh-length, fresh-count, grown-length}
-use Rattle.log.proofs.Logs.{sound-same, samples-same, blocks-same, put-here, put-other}
+use Rattle.log.proofs.BlockByBlock.{sound-same, samples-same, blocks-same, put-here, put-other}
 use Rattle.log.proofs.PowerUps.{power-up-room}
 use Rattle.log.proofs.Adds.{add-taken, add-room, add-last-room}
 

@@ -1,4 +1,5 @@
--- What the functions of a block do with its end, bytes 501 to 511, in the words of the definitions.
+-- The end of a block, bytes 501 to 511, as the functions test and write it, place by place. Byte 504 tells whether there must be a
+-- summary or zeros, and one sum over all 512 bytes tests the check, being that of the first 510 and the check's own two.
 -- Assumes nothing.
 use mathlib.Core.Path.{_≡_, refl, sym, ap, _∙_}
 use mathlib.Core.Logic.{_≢_}

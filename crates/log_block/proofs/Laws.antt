@@ -1,4 +1,5 @@
--- What the functions of a block do, in the words of the definitions: blocks that are written, and sound by themselves.
+-- Blocks as the functions write them: sealing goes by the places before byte 501 alone (`resealed`), so it is enough that the steps
+-- before it leave there what the definition says. And a sound block's tests, in the function's order.
 -- Assumes nothing.
 use mathlib.Core.Path.{_≡_, refl, sym, ap, _∙_}
 use mathlib.Core.Bool.{true, false, _&&_}

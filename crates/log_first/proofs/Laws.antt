@@ -1,4 +1,5 @@
--- What the search does, in the words of the definitions.
+-- The search in the steps of the functions: while nothing is found the answer is none, and stays so with one sample or one block more
+-- that lacks the bit; once something is found, no later sample and no later block changes the answer.
 -- Assumes nothing.
 use mathlib.Core.Path.{_≡_, sym, _∙_}
 use mathlib.Core.Bool.{true, false}
@@ -18,8 +19,8 @@ use Rattle.block.specs.Block.{blockSize, sampleSize, count, mostSamples, slot, 
 use Rattle.log.specs.Log.{block, total, misfit}
 use Rattle.question.specs.Search.{firstIn, passed, firstOfBlock, firstWith, crowded, refused, given, firstTold}
 use Rattle.block.proofs.Blocks.{samples-length}
-use Rattle.question.proofs.Search.{first-append, lit-at}
-use Rattle.question.proofs.Least.{crowded-block, total-few}
+use Rattle.question.proofs.EverySample.{first-append, lit-at}
+use Rattle.question.proofs.LeastPosition.{crowded-block, total-few}
 
 -- ---- counts
 

@@ -1,5 +1,5 @@
--- What an accepted call says of the bytes, and what lasts over any other than an accepted reset. From an accepted reset on: the bytes are
--- 688, and their state is the model's, sound after any history.
+-- An accepted call is on 688 bytes and leaves the bytes of the model's step, as for any lawful module: so from an accepted reset on the
+-- bytes' state is that of the model's run, and only another accepted reset changes what lasts (Lasting.antt).
 -- Assumes nothing.
 use mathlib.Core.Path.{_≡_, refl, ap, _∙_}
 use mathlib.Core.List.{List}

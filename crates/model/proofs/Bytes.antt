@@ -1,4 +1,5 @@
--- Bytes and states are the same thing, and a run on the bytes is the model's run: as for any lawful map.
+-- Bytes and states are the same thing, and a run on the bytes is the model's run: each is what ports proves of any lawful module, at
+-- document 01's.
 -- Assumes nothing.
 use mathlib.Core.Path.{_≡_}
 use mathlib.Core.List.{List}

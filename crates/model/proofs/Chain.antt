@@ -1,5 +1,5 @@
--- The chain: whatever calls that keep their contracts are made after one another, the demands' theorems are of the bytes that they
--- leave and of what they answer: flags, and that neither port is answered otherwise for the other's calls.
+-- The chain: calls that keep their contracts leave the bytes of the model's run, so that what demands 2 and 3 say of runs is said of
+-- those bytes and of the next call's answer. All but `flag-served` is the chain of ports at document 01's module.
 -- Assumes nothing.
 use mathlib.Core.Path.{_≡_, sym}
 use mathlib.Core.Bool.{true, false, _&&_}

@@ -1,5 +1,5 @@
 -- The contracts of the four calls: what a refused and what an accepted call owe them, that any two outcomes that a contract allows are
--- equal, and that the outcome is the model's step and answer. As for any lawful map.
+-- equal, and that the outcome is the model's step and answer. Each is what ports proves of any lawful module, at document 01's.
 -- Assumes nothing.
 use mathlib.Core.Path.{_≡_}
 use mathlib.Core.Logic.{_≢_}

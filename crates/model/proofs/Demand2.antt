@@ -1,4 +1,5 @@
--- Demand 2, over the bytes: "Each port sees SFF-8636 as document 01 states it."
+-- Demand 2, over the bytes: "Each port sees SFF-8636 as document 01 states it." An accepted call on bytes is that call on their state, so
+-- the rules are put together from those on states: the work lies in Flags, Since, Interrupt, Writes and Lasting.
 -- Assumes nothing.
 use mathlib.Core.Path.{_≡_, refl, sym, ap, _∙_}
 use mathlib.Core.Logic.{_↔_, _≢_}

@@ -1,5 +1,5 @@
--- Document 01, "Faults we expect to see", and its idle programs: for each a short history, computed from any state, in which it
--- would show. (Clearing for both ports is `read-clears-one` of Idle.antt, temperature compared unsigned is M8 of Marked.antt.)
+-- Document 01, "Faults we expect to see", its idle programs, and rules of writes: for each a short history, computed from any state, in
+-- which it would show. (Clearing for both ports is `read-clears-one` of Idle.antt, temperature compared unsigned is M8 of Marked.antt.)
 -- Assumes nothing.
 use mathlib.Core.Path.{_≡_, refl}
 use mathlib.Core.Bool.{true, false}
@@ -27,7 +27,7 @@ unfolding computed
 read-shows-it m operator = story (λ s. answer s operator (looks operator 3) .output) m (start ▷ losing 1) refl
 read-shows-it m recorder = story (λ s. answer s recorder (looks recorder 3) .output) m (start ▷ losing 1) refl
 
--- "Clearing on a read of byte 2": no flag does that
+-- "Clearing on a read of byte 2": such a read clears no flag
 pub status-clears-nothing : (m : State) (p : Port) → shown (afterReset m (start ▷ losing 1 ▷ looks p 2)) p ≡ (1, 1, true)
 unfolding computed
 status-clears-nothing m operator = story (λ s. shown s operator) m (start ▷ losing 1 ▷ looks operator 2) refl

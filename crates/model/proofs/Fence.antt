@@ -1,4 +1,5 @@
--- What a port sees of a state: nothing that its calls depend on is shared, and the other port's writes are out of its sight.
+-- What a port sees of a state: supported pages, conditions, what a sample stores and byte 2 come out the same with the shared list
+-- blanked (computed). What the other port's writes change is that port's record, or (the operator's) the shared list: out of sight.
 -- Assumes nothing.
 use mathlib.Core.Path.{_≡_, refl, ap, fun-ext}
 use mathlib.Core.Bool.{false, true≢false}
@@ -50,7 +51,7 @@ unfolding Fence.fence shared
 status-fence operator o mem = refl
 status-fence recorder o mem = refl
 
--- ---- the other port's calls are out of sight
+-- ---- the other port's writes are out of sight
 
 store-out : (p q : Port) → same q p ≡ false → (m : State) (v : ℕ) (s : Seat) → Same p (store m q v s) m
 unfolding store

@@ -1,4 +1,5 @@
--- Nothing stands past the ends of the memory and of the records, and no call changes that.
+-- Nothing stands past the ends of the memory and of the records, and no call changes that: the places that a call changes end before
+-- them, and an accepted image has no byte there.
 -- Assumes nothing.
 use mathlib.Core.Path.{_≡_, refl, _∙_}
 use mathlib.Core.Bool.{true, false, not}

@@ -1,5 +1,5 @@
--- Document 01, "Identity": a refused call has an empty view, and one that is not refused has a sound page; what is left out of a field is
--- its trailing 20h bytes, all of them and nothing else; a field lies in its page; the view and its place as numbers say the same.
+-- Document 01, "Identity": trimming goes byte by byte from a field's end, so it leaves out the trailing 20h bytes, all of them and
+-- nothing else; where the six fields lie is computed; and the view and its place as numbers go by the same start and length.
 -- Assumes nothing.
 use mathlib.Core.Path.{_≡_, refl, sym, _∙_}
 use mathlib.Core.Logic.{_≢_}

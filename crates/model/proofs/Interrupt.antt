@@ -1,5 +1,5 @@
--- Demand 2, the interrupt, and document 01's count: the count is the number of the flag bits that are 1 and whose mask bit is 0, the
--- interrupt stands exactly when there is such a bit, and bit 1 of byte 2 shows it.
+-- Demand 2, the interrupt, and document 01's count: what ports proves of any list of pairs, at the eleven. Byte 2 is a number of three
+-- binary digits, the second of which is the pin.
 -- Assumes nothing.
 use mathlib.Core.Path.{_≡_, refl, sym, _∙_}
 use mathlib.Core.Logic.{_↔_}

@@ -1,5 +1,5 @@
--- What lasts from one accepted reset to the next: page 00h and the thresholds, and with them identity, which pages are supported, what
--- byte 220 offers, and the limits.
+-- What lasts from one accepted reset to the next: page 00h, the thresholds and bit 2 of byte 2, and so what looks at nothing else. No
+-- sample changes these, and none of the places is on the shared list, where alone writes change the memory (computed, `untouched`).
 -- Assumes nothing.
 use mathlib.Core.Path.{_≡_, refl, sym, ap, ap₂, _∙_, fun-ext}
 use Prim.Native.Nat.{ℕ, zero, suc, _+_, _-_, _*_, _/_, _%_, _≤_, _<_}

@@ -1,4 +1,4 @@
--- Document 01's map is lawful: all that ports proves of any map holds of it.
+-- Document 01's module is lawful: all that ports proves of any lawful module holds of it.
 -- Assumes nothing.
 use mathlib.Core.Path.{refl}
 use native.Mathlib.Omega.{arith}

@@ -1,4 +1,5 @@
--- What the monitors show over calls: after an accepted sample its numbers, after an accepted reset nothing, and no read and no write changes it.
+-- What the monitors show over calls: a sample stores each number where its monitor looks, and no monitor looks at the shared list, where
+-- alone writes change the memory (both computed over the fourteen); a reset sets Data_Not_Ready, and a sample clears it.
 -- Assumes nothing.
 use mathlib.Core.Path.{_≡_, refl, sym, ap, _∙_}
 use mathlib.Core.Bool.{Bool, true, false, not, _&&_}

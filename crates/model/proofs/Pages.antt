@@ -1,4 +1,5 @@
--- What identity and the limits show over calls: after an accepted reset they are the image's, and no other call changes them.
+-- What identity and the limits show over calls: they look at page 00h and at the thresholds, which last (Lasting.antt). So after an
+-- accepted reset they are the image's, and no other call changes them.
 -- Assumes nothing.
 use mathlib.Core.Path.{_≡_, sym, ap, _∙_}
 use mathlib.Core.Bool.{true, false, _&&_}

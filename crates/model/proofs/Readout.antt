@@ -1,5 +1,5 @@
--- Document 01, "Monitors, limits": a temperature's division by 256 is exact, as a monitor shows it and as a limit; when a monitor says that
--- nothing is measured.
+-- Document 01, "Monitors, limits": a whole number of at most 53 binary digits over 256 is a float, so the one division rounds nothing and
+-- a temperature is exact. When nothing is measured goes by which monitors are optional, and that is computed.
 -- Assumes nothing.
 use mathlib.Core.Path.{_≡_, refl, sym, ap, _∙_}
 use mathlib.Core.Logic.{_↔_}

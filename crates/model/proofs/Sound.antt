@@ -1,4 +1,5 @@
--- What soundness is, and that each change keeps a record sound.
+-- A record is sound if its page is supported, one byte is 0, and four have their low four bits 0. Clearing, raising and writing leave
+-- these bits 0, only a supported page is entered, and which pages are lasts (Lasting.antt): so each call keeps both records sound.
 -- Assumes nothing.
 use mathlib.Core.Path.{_≡_, refl, ap, _∙_}
 use Prim.Native.Nat.{ℕ, suc, _%_, _<_}
@@ -123,7 +124,7 @@ page-entered mem k v o e = go (eqb pageAt k)
     go true = page-new mem v
     go false = e
 
--- ---- every call keeps both records sound
+-- ---- a write keeps both records sound
 
 pub page-of : (m : State) → Good m → (p : Port) → supported (m .mem) (m .own p pageAt) ≡ true
 unfolding sound
@@ -157,7 +158,7 @@ unfolding puts
 good-puts m q g a [] t = t
 good-puts m q g a (v ∷ vs) t = good-puts (store m q v (seat g a)) q g (suc a) vs (good-store m q v (seat g a) t)
 
--- ---- each call
+-- ---- so do a sample, a read and a reset
 
 pub sound-sample : (mem : Places) (x : List ℕ) (o : Places) → sound mem o ≡ true → sound (λ i. stored mem x i (mem i)) (raised mem x o) ≡ true
 unfolding sound raised

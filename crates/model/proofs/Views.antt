@@ -1,4 +1,4 @@
--- A port's own calls, samples and resets go by what the port sees.
+-- A port's own writes go by what the port sees, and so does what the recorder reads, save on the shared list.
 -- Assumes nothing.
 use mathlib.Core.Path.{_≡_, refl, ap, _∙_, fun-ext}
 use mathlib.Core.Bool.{Bool, false}
@@ -15,7 +15,7 @@ use Rattle.model.specs.Writing.{Class, ownClass, classOf, written, enter
 use Rattle.model.proofs.Ports.{written-same}
 use Rattle.model.proofs.Fence.{fence, Same, page-same, supported-fence, status-fence}
 
--- ---- a port's own calls, samples and resets go by what the port can see
+-- ---- a port's own writes go by what the port sees
 
 module _ (p : Port) (f g : Places) (e : fence p f ≡ fence p g) where
   -- a byte written where x stands, at place i

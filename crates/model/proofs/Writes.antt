@@ -1,5 +1,5 @@
--- Demand 2, writes, over the model: "A write changes the writable bits it addresses and nothing else." Which place of the state
--- each address leads to, what the bytes of a write leave at every place, which bits of a byte change, what an accepted write is.
+-- Demand 2, writes, over the model: "A write changes the writable bits it addresses and nothing else." No two addresses of a page lead to
+-- one place (computed, by a way back from place to address), so at most one byte of a write meets a place, and there goes by its class.
 -- Assumes nothing.
 use mathlib.Core.Path.{_≡_, refl, sym, _∙_}
 use mathlib.Core.Logic.{_≢_}

@@ -1,4 +1,5 @@
--- What is answered, for any lawful module: demand 1, and of demand 2 what a read shows and which count is reported.
+-- What is answered, for any lawful module (demand 1; of demand 2 what a read shows, and the count): bytes of a wrong length are refused
+-- 1, and on all others the answer is the one on states, where it is read off for a refused and for an accepted call.
 -- Assumes nothing.
 use mathlib.Core.Path.{_≡_, refl, sym, ap, _∙_}
 use mathlib.Core.Logic.{_↔_, _≢_}

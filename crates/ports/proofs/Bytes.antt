@@ -1,4 +1,5 @@
--- Bytes and states are the same thing.
+-- Bytes and states are the same thing: a place of the bytes is one of the memory or of one record (`spot`), and there the way to a state
+-- and the way back undo one another, as long as nothing stands past the state's ends.
 -- Assumes nothing.
 use mathlib.Core.Path.{_≡_, sym, _∙_, fun-ext, subst}
 use mathlib.Core.List.{List}

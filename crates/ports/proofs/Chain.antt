@@ -1,5 +1,5 @@
--- The chain, for any lawful module: whatever calls that keep their contracts are made after one another, the demands' theorems are of the
--- bytes that they leave and of what they answer: neither port is answered otherwise for the other's calls.
+-- The chain, for any lawful module: calls that keep their contracts leave, one after the other, the bytes of the run (`served-runs`). So
+-- demand 3, which is of runs, is of the bytes that any such calls leave and of what the next one answers.
 -- Assumes nothing.
 use mathlib.Core.Path.{_≡_, refl, sym, ap, _∙_}
 use mathlib.Core.Bool.{true, false}
@@ -18,7 +18,7 @@ use Rattle.ports.proofs.Answers.{answer-refused}
 use Rattle.ports.proofs.Views.{Whole, begun-whole, recorder-undisturbed, operator-undisturbed}
 
 module _ {Image : Type 0} (M : Module Image) where
-  -- the bytes that are left are the model's run
+  -- the bytes that are left are the run's
   pub served-runs : {s : List ℕ} {h : History (CallOf Image)} {t : List ℕ} → Served M s h t → t ≡ runs M s h
   unfolding runs
   served-runs unused = refl

@@ -1,5 +1,5 @@
--- The contracts of the four calls: what a refused and what an accepted call owe them, that any two outcomes that a contract allows are
--- equal, and that the outcome is the model's step and answer.
+-- The contracts of the four calls are equations with the definitions, for each thing that is left or answered: so two outcomes are equal,
+-- a refused call owes its refusal alone and an accepted one its bytes and counts, and the outcome is the step and the answer on states.
 -- Assumes nothing.
 use mathlib.Core.Path.{_≡_, sym, ap, _∙_}
 use mathlib.Core.Logic.{_≢_}
@@ -34,7 +34,7 @@ module _ {Image : Type 0} (M : Module Image) (L : Lawful M) where
       let q = refused-changes-nothing M s (write n a vs) (λ z. h (e ∙ z)) in
       record { refusal-is = e; count-is = rw (q .1 (caller n)); state-is = sym (q .0) }
 
-  -- ---- an accepted call, whose bytes t are those of the model's state
+  -- ---- an accepted call, whose bytes t are those of the state that `done` leaves
 
   module _ (s : List ℕ) (c : CallOf Image) (taken : refusalOf M s c ≡ 0) (t : List ℕ) (left : t ≡ bytesOf M (done M (stateOf M s) c)) where
     pub taken-after : t ≡ after M s c
@@ -66,7 +66,7 @@ module _ {Image : Type 0} (M : Module Image) (L : Lawful M) where
       → (r₁ ≡ r₂) × (x₁ ≡ x₂) × (t₁ ≡ t₂)
   write-unique p q = (p .refusal-is ∙ sym (q .refusal-is), p .count-is ∙ sym (q .count-is), p .state-is ∙ sym (q .state-is))
 
-  -- ---- the outcome is the model's: on 688 bytes, the step M and the answer M that the theorems speak of
+  -- ---- on as many bytes as a state has the outcome is the step and the answer on states
 
   module _ (s : List ℕ) (c : CallOf Image) (p : Port) (long : length s ≡ stateSize M) where
     state-step : (t : List ℕ) → t ≡ after M s c → stateOf M t ≡ step M (stateOf M s) c

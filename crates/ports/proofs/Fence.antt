@@ -1,4 +1,5 @@
--- What a port sees of a state.
+-- What a port sees of a state: its own record, and the memory with all that the other port may write blanked. So what looks at no blanked
+-- place, and what changes each byte by its place and its own value, does the same on two states that look the same to the port.
 -- Assumes nothing.
 use mathlib.Core.Path.{_≡_, refl, sym, ap, ap₂, _∙_, fun-ext}
 use mathlib.Core.Bool.{Bool, true, false, true≢false, false≢true}

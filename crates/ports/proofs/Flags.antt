@@ -1,4 +1,5 @@
--- Demand 2, the flag rule, for any lawful module: a byte of a record that samples raise and reads of one address clear.
+-- Demand 2, the flag rule, for any lawful module: each call makes a flag byte 0 or ORs into it the conditions that it brings
+-- (`byte-law`). So each of its bits is up exactly if its condition was brought and not wiped since (`latch-since` of Histories.antt).
 -- Assumes nothing.
 use mathlib.Core.Path.{_≡_, refl, sym, ap, _∙_}
 use mathlib.Core.Logic.{_↔_}

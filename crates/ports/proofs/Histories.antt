@@ -1,4 +1,5 @@
--- Histories of calls, of any kind: what lasts, what was brought and not wiped since, and what a port can tell of another's calls.
+-- Histories of calls, of any kind, by their newest call: what each call keeps lasts; a mark that each call wipes, or else leaves up or
+-- brings, is up exactly if it was brought and not wiped since; and whoever can't see the others' calls sees what it would without them.
 -- Assumes nothing.
 use mathlib.Core.Path.{_≡_, refl, sym, ap, _∙_, subst}
 use mathlib.Core.Logic.{_↔_}

@@ -1,5 +1,5 @@
--- The count and the interrupt, over any list of pairs: the count is the number of the flag bits that are 1 and whose mask bit is 0, and
--- the interrupt stands exactly when there is such a bit.
+-- The count and the interrupt, over any list of pairs: of all bits of the flag bytes those that are 1 and whose mask bit is 0 are picked;
+-- the count is the length of that list, and the interrupt stands exactly when there is one in it.
 -- Assumes nothing.
 use mathlib.Core.Path.{_≡_, refl, sym, ap, _∙_}
 use mathlib.Core.Logic.{_↔_}

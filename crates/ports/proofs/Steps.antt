@@ -1,5 +1,5 @@
--- What each call keeps, for any lawful module: soundness, and that nothing stands past the ends. What is accepted in a sound state goes by
--- the call's own arguments. A run on the bytes is a run on states.
+-- What each call keeps, for any lawful module, call by call from the module's laws: soundness, and that nothing stands past the ends; so
+-- a run on the bytes is a run on states. Which resets, samples and reads a sound state accepts goes by their own arguments.
 -- Assumes nothing.
 use mathlib.Core.Path.{_≡_, refl, sym, _∙_}
 use mathlib.Core.Bool.{true, false, not, _&&_}
@@ -101,7 +101,7 @@ module _ {Image : Type 0} (M : Module Image) (L : Lawful M) where
   }
   fits-done m (write n a vs) e t = L .puts-end m (caller n) a vs t
 
-  -- ---- a run on the bytes is the model's run
+  -- ---- a run on the bytes is a run on states
 
   pub refusal-long : (s : List ℕ) (c : CallOf Image) → length s ≡ stateSize M → refusalOf M s c ≡ refusal M (stateOf M s) c
   unfolding refusalOf rowsOf refusal
@@ -136,7 +136,7 @@ module _ {Image : Type 0} (M : Module Image) (L : Lawful M) where
   unfolding refusalOf rowsOf
   taken-size s c e = case (eqb (length s) (stateSize M)) (λ t. eqb-true (length s) (stateSize M) t) (λ t. let z : _≡_ {A = ℕ} 1 0 = rw t at e in absurd (omega arith))
 
-  -- and the model takes it too
+  -- and their state takes it too
   pub taken-state : (s : List ℕ) (c : CallOf Image) → refusalOf M s c ≡ 0 → accepted M (stateOf M s) c ≡ true
   taken-state s c e = eq-eqb _ 0 (sym (refusal-long s c (taken-size s c e)) ∙ e)
 

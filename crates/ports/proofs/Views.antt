@@ -1,5 +1,5 @@
--- Demand 3, for any lawful module: a port's own calls, samples and resets go by what the port sees, and the other's are out of its sight, so
--- that it can't tell apart two histories that differ in the other port's calls. And so that neighbours may change places.
+-- Demand 3, for any lawful module: a port's own calls, samples and resets go by what the port sees, and the other's are out of its sight,
+-- so it can't tell apart two histories that differ in the other's calls; and what neither port can tell apart is the same state.
 -- Assumes nothing.
 use mathlib.Core.Path.{_≡_, refl, sym, ap, ap₂, _∙_, subst}
 use mathlib.Core.Bool.{Bool, true, false, true≢false}

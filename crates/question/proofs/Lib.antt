@@ -1,5 +1,5 @@
-pub mod Search
-pub mod Least
-pub mod Told
-pub mod Answers
-pub mod Searched
+pub mod EverySample
+pub mod LeastPosition
+pub mod AnyMemory
+pub mod SoundLog
+pub mod Examples

@@ -1,4 +1,4 @@
--- `bridge::first_value` meets its contract.
+-- `bridge::first_value` meets its contract: it makes no difference that the position is cut also before 1 is added.
 -- Assumes nothing.
 use native.Mathlib.Omega.{arith}
 use borrow.Author.Needs.{needs}

@@ -1,4 +1,4 @@
--- `bridge::zikhrodan_log_power_up` meets its contract.
+-- `bridge::zikhrodan_log_power_up` meets its contract: the used number counts blocks of the memory, so it fits beside the refusal.
 -- Assumes nothing.
 use borrow.Author.Needs.{needs}
 use Rattle.log.proofs.Contracts.{opened-fits}

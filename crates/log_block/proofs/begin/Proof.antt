@@ -1,4 +1,4 @@
--- `log_block::begin` meets its contract.
+-- `log_block::begin` meets its contract: a number and zeros are the places before byte 501 that `seal` goes by (`begin-done`).
 -- Assumes nothing.
 use mathlib.Core.Path.{_∙_}
 use borrow.Author.Needs.{needs}

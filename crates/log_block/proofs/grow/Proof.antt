@@ -1,4 +1,5 @@
--- `log_block::grow` meets its contract.
+-- `log_block::grow` meets its contract: once the sample and the count are put, the places before byte 501 are those of the grown block,
+-- and `seal` goes by these alone (`grow-done`). The count is then at most 16, which `seal` asks for.
 -- Assumes nothing.
 use mathlib.Core.Path.{_∙_}
 use Prim.Native.Nat.{ℕ, _+_}

@@ -1,4 +1,4 @@
--- `log_block::has_summary` meets its contract.
+-- `log_block::has_summary` meets its contract: the four tests and the five zeros are the summary's nine places, one after the other.
 -- Assumes nothing.
 use borrow.Author.Needs.{needs}
 use Rattle.log_block.proofs.Ends.{summary-parts}

@@ -1,4 +1,4 @@
--- `log_block::is_blank` meets its contract.
+-- `log_block::is_blank` meets its contract: the OR of the bytes already gone through is 0 exactly if each of them is.
 -- Assumes nothing.
 use mathlib.Core.Path.{_≡_, refl}
 use Prim.Native.Nat.{_+_, _-_, _≤_}

@@ -1,4 +1,4 @@
--- `log_block::is_checked` meets its contract.
+-- `log_block::is_checked` meets its contract: the sum of all 512 bytes is that of the first 510 and the two of the check (`checked-is`).
 -- Assumes nothing.
 use borrow.Author.Needs.{needs}
 use Rattle.log_block.proofs.Ends.{checked-is}

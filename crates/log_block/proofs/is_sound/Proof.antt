@@ -1,4 +1,4 @@
--- `log_block::is_sound` meets its contract.
+-- `log_block::is_sound` meets its contract: its tests are the definition's, in the same order.
 -- Assumes nothing.
 use mathlib.Core.Path.{sym, _∙_}
 use borrow.Author.Needs.{needs}

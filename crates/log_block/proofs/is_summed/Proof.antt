@@ -1,4 +1,4 @@
--- `log_block::is_summed` meets its contract.
+-- `log_block::is_summed` meets its contract: byte 504 tells whether bytes 501 to 509 must be a summary or zeros.
 -- Assumes nothing.
 use mathlib.Core.Path.{_∙_}
 use borrow.Author.Needs.{needs}

@@ -1,4 +1,4 @@
--- `log_block::put_number` meets its contract.
+-- `log_block::put_number` meets its contract: the four writes are one run of four places.
 -- Assumes nothing.
 use borrow.Author.Needs.{needs}
 use Rattle.log_block.proofs.Laws.{numbered}

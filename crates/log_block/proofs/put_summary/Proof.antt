@@ -1,4 +1,5 @@
--- `log_block::put_summary` meets its contract.
+-- `log_block::put_summary` meets its contract: the fill with zeros and the four writes over it are one run of eleven places
+-- (`summary-put`). The rest is that no write changes the length.
 -- Assumes nothing.
 use native.Mathlib.Omega.{arith}
 use lib.ListN.{length-set, set}

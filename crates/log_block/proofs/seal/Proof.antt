@@ -1,4 +1,4 @@
--- `log_block::seal` meets its contract.
+-- `log_block::seal` meets its contract: the two bytes of the check are 0 while the sum is taken, so it is that of the first 510.
 -- Assumes nothing.
 use borrow.Author.Needs.{needs}
 use Rattle.log_block.proofs.Ends.{seal-done}

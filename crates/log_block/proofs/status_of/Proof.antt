@@ -1,4 +1,5 @@
--- `log_block::status_of` meets its contract.
+-- `log_block::status_of` meets its contract: each of the three numbers is the OR of its status byte over the samples already gone
+-- through, and a turn ORs in that of the next one.
 -- Assumes nothing.
 use mathlib.Core.Path.{_≡_, refl}
 use Prim.Native.Nat.{ℕ, _+_, _-_, _≤_}

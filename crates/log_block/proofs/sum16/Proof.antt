@@ -1,4 +1,5 @@
--- `log_block::sum16` meets its contract.
+-- `log_block::sum16` meets its contract: the sum so far is that of the bytes already gone through, low sixteen bits, and a turn adds the
+-- next byte.
 -- Assumes nothing.
 use mathlib.Core.Path.{_≡_}
 use Prim.Native.Nat.{_-_, _%_, _≤_}

@@ -1,4 +1,5 @@
--- What an add and a power-up leave, in the steps of the functions.
+-- What an add and a power-up leave, in the steps of the functions: a block that is lent and comes back is a block that is put, and one
+-- that is opened and then grows is put twice at one place, which is once.
 -- Assumes nothing.
 use mathlib.Core.Path.{_≡_, refl, sym, ap, _∙_}
 use mathlib.Core.Logic.{_≢_}
@@ -16,7 +17,7 @@ use Rattle.block.specs.Block.{blockSize, sampleSize, number, count, mostSamples
 use Rattle.log.specs.Log.{block, lastNumber, needsNew, put, newBlock, wrongSample, unsound, noneLeft}
 use Rattle.log.specs.Contracts.{addRefusal, powerUpRefusal}
 use Rattle.block.proofs.Blocks.{fresh-length, fresh-count}
-use Rattle.log.proofs.Logs.{put-length, put-here, put-put}
+use Rattle.log.proofs.BlockByBlock.{put-length, put-here, put-put}
 
 -- ---- the last used block
 

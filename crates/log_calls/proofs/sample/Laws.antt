@@ -1,4 +1,5 @@
--- The sample at a position in the steps of the functions: a turn of the walk by counts, where it lies, its bytes.
+-- The sample at a position in the steps of the functions: after i blocks `left` is how far the position is above their samples, so the
+-- sample is in the next block if that has more than `left`, and else that block's count is taken off.
 -- Assumes nothing.
 use mathlib.Core.Path.{_≡_, refl, sym, _∙_}
 use mathlib.Core.Logic.{_≢_}
@@ -18,7 +19,7 @@ use Rattle.laws.proofs.Rows.{first-none}
 use Rattle.block.specs.Block.{blockSize, sampleSize, count, slot}
 use Rattle.log.specs.Log.{block, samples, total, placeOf, unsound, sampleRows}
 use Rattle.log.specs.Contracts.{sampleRefusal, Placed, Shown}
-use Rattle.log.proofs.Logs.{total-more}
+use Rattle.log.proofs.BlockByBlock.{total-more}
 use Rattle.log.proofs.Fits.{fit}
 use Rattle.log.proofs.Positions.{place-found, sample-lies}
 

@@ -1,4 +1,5 @@
--- The definitions of a sound log in the steps of the walk over its used blocks.
+-- A sound log in the steps of the walk over its used blocks: after i sound ones the next keeps the log sound if it is sound and, unless
+-- it is the first, its number is the last one's plus 1; and one that is not so ends the walk, since no sound log has such a block.
 -- Assumes nothing.
 use mathlib.Core.Path.{_≡_, refl, sym, _∙_}
 use mathlib.Core.Logic.{_≢_}
@@ -12,7 +13,7 @@ use borrow.Author.Tests.{ne-eqb, eqb-true, not-true}
 use Rattle.laws.proofs.Tests.{case, and-left, and-right, and-both, not-both}
 use Rattle.block.specs.Block.{blockSize, number, soundBlock}
 use Rattle.log.specs.Log.{block, follows, sound, lastNumber, misfit, unsound}
-use Rattle.log.proofs.Logs.{sound-block, sound-follows}
+use Rattle.log.proofs.BlockByBlock.{sound-block, sound-follows}
 use Rattle.log.proofs.Fits.{fitting, fit}
 
 -- ---- a turn of the walk: block i after i sound ones, of which the last has the number `last`
@@ -38,7 +39,7 @@ module _ (log : List ℕ) (i last : ℕ) (known : last ≡ lastNumber log i) whe
       let b = not-true (eqb (number (block log i)) (last + 1)) (and-right (not (eqb i 0)) (not (eqb (number (block log i)) (last + 1))) e) in
       follows-known ∙ rw (a, b)
 
-  -- as many blocks as numbers
+  -- no more blocks than numbers from 0 to the last one's
   pub counted-on : (not (eqb i 0) && not (eqb (number (block log i)) (last + 1))) ≡ false → i ≤ last + 1 → i + 1 ≤ number (block log i) + 1
   counted-on e h = case (eqb i 0)
       (λ t. let z = eqb-true i 0 t in omega arith)

@@ -1,4 +1,5 @@
--- `log_first::before_first` meets its contract.
+-- `log_first::before_first` meets its contract: none of the samples already gone through has the bit; a turn ends at one that has it,
+-- which is then the first, or it is one more.
 -- Assumes nothing.
 use mathlib.Core.Path.{_≡_, refl, sym, _∙_}
 use mathlib.Core.Option.{none}

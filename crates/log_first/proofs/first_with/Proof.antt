@@ -1,4 +1,4 @@
--- `log_first::first_with` meets its contract.
+-- `log_first::first_with` meets its contract: its tests are the rows', but that the search asks for the counts itself.
 -- Assumes nothing.
 use mathlib.Core.Path.{refl, sym, _∙_}
 use native.Mathlib.Omega.{arith}

@@ -1,4 +1,4 @@
--- `log_first::found` meets its contract.
+-- `log_first::found` meets its contract: no block up to this one is crowded, so only those behind it are asked.
 -- Assumes nothing.
 use mathlib.Core.Path.{_≡_, refl, sym, _∙_}
 use mathlib.Core.Bool.{true, false}

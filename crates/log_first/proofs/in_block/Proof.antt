@@ -1,4 +1,4 @@
--- `log_first::in_block` meets its contract.
+-- `log_first::in_block` meets its contract: a block that is passed over answers its count, as one does of which no sample has the bit.
 -- Assumes nothing.
 use mathlib.Core.Path.{sym, _∙_}
 use borrow.Author.Needs.{needs}

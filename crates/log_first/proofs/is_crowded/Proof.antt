@@ -1,4 +1,5 @@
--- `log_first::is_crowded` meets its contract.
+-- `log_first::is_crowded` meets its contract: none of the blocks already gone through has a count above 16; a turn ends at one that has,
+-- or it is one more.
 -- Assumes nothing.
 use mathlib.Core.Path.{_≡_, sym}
 use mathlib.Core.Bool.{false}

@@ -1,4 +1,5 @@
--- `log_first::search` meets its contract.
+-- `log_first::search` meets its contract: `before` is how many samples the blocks already gone through have, none is the answer for them,
+-- and none of them is crowded; a turn ends at a crowded block or at a sample that is found, or has one such block more.
 -- Assumes nothing.
 use mathlib.Core.Path.{_≡_, refl, sym, ap, _∙_}
 use mathlib.Core.Bool.{false}
@@ -11,7 +12,7 @@ use borrow.Author.Needs.{needs}
 use Rattle.block.specs.Block.{count, mostSamples}
 use Rattle.log.specs.Log.{block, samples, total}
 use Rattle.question.specs.Search.{firstWith, crowded}
-use Rattle.log.proofs.Logs.{total-more}
+use Rattle.log.proofs.BlockByBlock.{total-more}
 use Rattle.log_first.proofs.Laws.{crowded-found, crowded-next, total-fits, InBlock, told-found, told-none, with-next, with-found}
 use Rattle.log_first.proofs.search.Statement.{statement}
 use Rattle.log_first.proofs.search.Tie as tie
@@ -64,7 +65,7 @@ answered-there : (b : tie.After-in-block Inv-loop μ-loop) → let w = b .before
     InBlock (w .before .before .args .bit) (block (w .before .before .args .log .now) (w .loop .i)) (b .in-block .result)
 answered-there b = rw (b .before .block-of2 .ensures .0) at (b .in-block .ensures)
 
--- the samples before the block and those of it are fewer than the memory has bytes
+-- the samples before the block and those of it are no more than the memory has bytes
 roomy : (b : tie.After-in-block Inv-loop μ-loop) → let w = b .before .before .before .before .before .before in
     w .loop .before + b .before .before .before .count-of .result ≤ length (w .before .before .args .log .now)
 roomy b =

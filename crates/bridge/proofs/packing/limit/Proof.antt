@@ -1,4 +1,4 @@
--- `bridge::packing::limit` meets its contract.
+-- `bridge::packing::limit` meets its contract: where there is no limit, 0.0 as the code writes it is the definition's (Nothing.antt).
 -- Assumes nothing.
 use native.Mathlib.Omega.{arith}
 use borrow.Author.Needs.{needs}

@@ -1,4 +1,4 @@
--- `bridge::packing::value` meets its contract.
+-- `bridge::packing::value` meets its contract: where there is no value, 0.0 as the code writes it is the definition's (Nothing.antt).
 -- Assumes nothing.
 use borrow.Author.Needs.{needs}
 use Rattle.bridge.proofs.packing.Nothing.{none-is}

@@ -1,4 +1,5 @@
--- `log_calls::change::add` meets its contract.
+-- `log_calls::change::add` meets its contract: refused, it changes nothing; where a new block is needed, that is opened and then grows,
+-- which is one put (`opened-grown`); else the last one grows. That there is room follows from its not being refused.
 -- Assumes nothing.
 use mathlib.Core.Path.{_≡_, sym, _∙_}
 use native.Mathlib.Omega.{arith}

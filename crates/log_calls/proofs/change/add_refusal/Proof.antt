@@ -1,4 +1,4 @@
--- `log_calls::change::add_refusal` meets its contract.
+-- `log_calls::change::add_refusal` meets its contract: its tests are the rows', in their order.
 -- Assumes nothing.
 use mathlib.Core.Path.{refl, sym, _∙_}
 use lib.ListN.{length}

@@ -1,4 +1,5 @@
--- `log_calls::change::grow_block` meets its contract.
+-- `log_calls::change::grow_block` meets its contract: the block that was lent comes back grown and of the same length, so it is put
+-- (`block-back`).
 -- Assumes nothing.
 use mathlib.Core.Path.{_≡_, ap, _∙_}
 use Prim.Native.Nat.{_+_, _-_, _*_}

@@ -1,4 +1,5 @@
--- `log_calls::change::open_block` meets its contract.
+-- `log_calls::change::open_block` meets its contract: the block that was lent comes back empty, with the number after the last one's, so
+-- it is put (`block-back`).
 -- Assumes nothing.
 use mathlib.Core.Path.{_≡_, ap, _∙_}
 use Prim.Native.Nat.{suc, _+_}

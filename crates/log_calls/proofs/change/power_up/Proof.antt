@@ -1,4 +1,4 @@
--- `log_calls::change::power_up` meets its contract.
+-- `log_calls::change::power_up` meets its contract: refused, it changes nothing; else there is room for the block that is opened.
 -- Assumes nothing.
 use mathlib.Core.Path.{sym, _∙_}
 use borrow.Author.Needs.{needs}

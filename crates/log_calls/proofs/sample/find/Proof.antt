@@ -1,4 +1,5 @@
--- `log_calls::sample::find` meets its contract.
+-- `log_calls::sample::find` meets its contract: the samples of the blocks already gone through and `left` make up the position, and a
+-- turn finds it in the next block or takes that block's count off. The rest is that a sample of a sound block lies inside the memory.
 -- Assumes nothing.
 use mathlib.Core.Path.{_≡_, refl, ap, _∙_}
 use Prim.Native.Nat.{_+_, _-_, _*_, _≤_, _<_}
@@ -8,7 +9,7 @@ use borrow.Author.Needs.{needs}
 use Rattle.block.specs.Block.{blockSize, count, mostSamples}
 use Rattle.log.specs.Log.{block, samples, total}
 use Rattle.block.proofs.Blocks.{sound-count}
-use Rattle.log.proofs.Logs.{sound-block}
+use Rattle.log.proofs.BlockByBlock.{sound-block}
 use Rattle.log_calls.proofs.sample.Laws.{found-here, passed-on, none-here}
 use Rattle.log_calls.proofs.sample.find.Statement.{statement}
 use Rattle.log_calls.proofs.sample.find.Tie as tie

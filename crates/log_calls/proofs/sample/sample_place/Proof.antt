@@ -1,4 +1,4 @@
--- `log_calls::sample::sample_place` meets its contract.
+-- `log_calls::sample::sample_place` meets its contract: 15 by the walk, and past it what `find` says of a sound log.
 -- Assumes nothing.
 use mathlib.Core.Path.{sym, _∙_}
 use native.Mathlib.Omega.{arith}

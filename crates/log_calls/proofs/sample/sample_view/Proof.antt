@@ -1,4 +1,4 @@
--- `log_calls::sample::sample_view` meets its contract.
+-- `log_calls::sample::sample_view` meets its contract: the 31 bytes at the place that is told lie inside the log, and are the sample.
 -- Assumes nothing.
 use mathlib.Core.Path.{refl}
 use native.Mathlib.Omega.{arith}

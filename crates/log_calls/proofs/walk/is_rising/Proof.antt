@@ -1,4 +1,5 @@
--- `log_calls::walk::is_rising` meets its contract.
+-- `log_calls::walk::is_rising` meets its contract: the blocks already gone through are sound, `last` is the number of the last of them,
+-- and i is at most `last` + 1; a turn has one sound block more, or ends at one that makes the log unsound.
 -- Assumes nothing.
 use mathlib.Core.Path.{_≡_, refl, sym, ap, _∙_}
 use mathlib.Core.Bool.{true, false, false≢true}

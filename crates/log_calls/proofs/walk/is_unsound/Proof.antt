@@ -1,4 +1,5 @@
--- `log_calls::walk::is_unsound` meets its contract.
+-- `log_calls::walk::is_unsound` meets its contract: past the first test the memory has the used blocks, and soundness is what the walk
+-- says.
 -- Assumes nothing.
 use mathlib.Core.Path.{sym, _∙_}
 use mathlib.Core.Bool.{true, false, true≢false}

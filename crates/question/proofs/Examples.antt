@@ -1,4 +1,5 @@
--- Document 02, Ask 9: examples, computed. What the question answers on a log of five blocks: one with a summary, one with no samples, an old one, one whose summary lies, and one with 2 in byte 504.
+-- Document 02, Ask 9: examples, computed. What the question answers on a log of five blocks: one with a summary, one with no samples, an
+-- old one, one whose summary lies, and one with 2 in byte 504.
 -- Assumes nothing.
 use mathlib.Core.Path.{_≡_, refl}
 use mathlib.Core.List.{[], _∷_, _++_}

@@ -1,4 +1,5 @@
--- Document 02, Ask 9: what the question says of any memory, sound or not: when each refusal is given, and the answer, exactly.
+-- Document 02, Ask 9: what the question says of any memory, sound or not. Where neither refusal applies the answer is the search's, which
+-- is the least position and nothing else (LeastPosition.antt); and it goes by the used blocks alone, one after the other.
 -- Assumes nothing.
 use mathlib.Core.Path.{_≡_, refl, sym, ap, _∙_}
 use mathlib.Core.Logic.{_≢_, _↔_}
@@ -17,8 +18,8 @@ use Rattle.laws.proofs.Rows.{in-order}
 use Rattle.block.specs.Block.{blockSize}
 use Rattle.log.specs.Log.{block}
 use Rattle.question.specs.Search.{firstWith, crowded, misshapen, firstRows, Told, refused, given, firstTold, Least}
-use Rattle.log.proofs.Logs.{samples-same, blocks-same, total-more, by-blocks}
-use Rattle.question.proofs.Least.{total-few, shapely, total-less, first-least, least-only}
+use Rattle.log.proofs.BlockByBlock.{samples-same, blocks-same, total-more, by-blocks}
+use Rattle.question.proofs.LeastPosition.{total-few, shapely, total-less, first-least, least-only}
 
 -- ---- refusals, in the ask's order
 
@@ -41,7 +42,7 @@ abbrev place : Told (Option ℕ) → Option ℕ
 place (refused n) = none
 place (given p) = p
 
--- it is the search's, and the memory is whole blocks
+-- it is the search's, and neither refusal applies
 pub first-given : (log : List ℕ) (used k : ℕ) {r : Option ℕ} → firstTold log used k ≡ given r → (misshapen log used ≡ false) × (k ≤ 23) × (firstWith log used k ≡ r)
 first-given log used k {r} e = case (misshapen log used)
     (λ t. absurd (true≢false (ap is-refused (rw t at e))))

@@ -1,5 +1,5 @@
--- Document 02, Ask 9: the first sample with a status bit: what the answer says of a list of samples, that a summary leaves out no bit
--- that a sample of its block has, and that on a sound log the search answers what reading every sample does.
+-- Document 02, Ask 9: the first sample with a status bit by reading every sample. A summary is an OR, so a block that is passed over has
+-- no sample with the bit, and on a sound log the search answers what reading every sample does.
 -- Assumes nothing.
 use mathlib.Core.Path.{_≡_, refl, sym, ap, _∙_}
 use mathlib.Core.Bool.{true, false, not}
@@ -20,7 +20,7 @@ use Rattle.log.specs.Log.{blocks, block, sound, samples}
 use Rattle.question.specs.Search.{lit, further, orElse, firstIn, passed, firstOfBlock, firstWith, FirstIs}
 use Rattle.block.proofs.Sealed.{holds-at}
 use Rattle.block.proofs.Blocks.{sound-count, sound-ended, samples-length, samples-at}
-use Rattle.log.proofs.Logs.{sound-less, sound-block}
+use Rattle.log.proofs.BlockByBlock.{sound-less, sound-block}
 
 -- ---- a list of samples
 

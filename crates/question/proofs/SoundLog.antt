@@ -1,5 +1,5 @@
--- Document 02, Ask 9: what the question says of a sound log. The sample that reading hands back at the answered position has the bit,
--- and none before it has; and what an add, a power-up and any series of calls make of the answer.
+-- Document 02, Ask 9: what the question says of a sound log. It is what reading every sample says (EverySample.antt), so all is said of
+-- the list of samples, and of that Ask 1 tells what reading hands back and what an add, a power-up and any series of calls make of it.
 -- Assumes nothing.
 use mathlib.Core.Path.{_≡_, sym, ap, _∙_}
 use mathlib.Core.Bool.{true, false}
@@ -21,9 +21,9 @@ use Rattle.question.specs.Search.{lit, orElse, firstIn, refused, given, 
 use Rattle.log.proofs.PowerUps.{power-up-taken, power-up-sound, power-up-samples}
 use Rattle.log.proofs.Adds.{add-taken, add-sound, add-samples}
 use Rattle.log.proofs.Positions.{sample-taken, sample-placed}
-use Rattle.question.proofs.Search.{first-is, first-only, first-append, search-reads}
-use Rattle.question.proofs.Least.{sound-crowded}
-use Rattle.question.proofs.Told.{first-given}
+use Rattle.question.proofs.EverySample.{first-is, first-only, first-append, search-reads}
+use Rattle.question.proofs.LeastPosition.{sound-crowded}
+use Rattle.question.proofs.AnyMemory.{first-given}
 
 -- ---- a sound log
 

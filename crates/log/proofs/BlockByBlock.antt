@@ -1,4 +1,5 @@
--- Logs: what the first so many blocks say is said of them alone; a block that is put; a stretch of a log is a log.
+-- A log, block by block: what is said of its first n + 1 blocks is said of the first n and of the one after them. So memories that agree
+-- in these blocks have it in common, a block that is put leaves the others, and what lies past m blocks is a log.
 -- Assumes nothing.
 use mathlib.Core.Path.{_≡_, refl, sym, ap, _∙_}
 use mathlib.Core.Logic.{_≢_}

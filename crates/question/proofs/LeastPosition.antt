@@ -1,5 +1,5 @@
--- Document 02, Ask 9: the first sample with a status bit among the used blocks of any memory that are not passed over: that the
--- search's answer is the least position, and the only one that is.
+-- Document 02, Ask 9: on any memory the search answers the least position of a sample with the bit in a used block not passed over: with
+-- one block more an answer that is there stays the least, as later positions are above it, and else that block's own first is.
 -- Assumes nothing.
 use mathlib.Core.Path.{_≡_, refl, sym, ap, _∙_}
 use mathlib.Core.Bool.{true, false}
@@ -16,9 +16,9 @@ use Rattle.block.specs.Block.{blockSize, sampleSize, count, mostSamples, slot, 
 use Rattle.log.specs.Log.{block, sound, samples, total, misfit}
 use Rattle.question.specs.Search.{lit, further, orElse, firstIn, passed, firstOfBlock, firstWith, crowded, misshapen, FirstIs, Hit, Least}
 use Rattle.block.proofs.Blocks.{sound-count, samples-length, samples-at}
-use Rattle.log.proofs.Logs.{sound-less, sound-block, total-more}
+use Rattle.log.proofs.BlockByBlock.{sound-less, sound-block, total-more}
 use Rattle.log.proofs.Fits.{fitting}
-use Rattle.question.proofs.Search.{first-is}
+use Rattle.question.proofs.EverySample.{first-is}
 
 -- ---- counts
 
