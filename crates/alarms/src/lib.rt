@@ -7,10 +7,27 @@ ghost use lib.Signed.{ltZ};
 ghost use lib.ListN.{length};
 ghost use Rattle.laws.specs.Tests.{if_then_else_, one};
 ghost use Rattle.laws.specs.Lists.{at, table};
-ghost use Rattle.model.specs.Map.{stateSize, flags};
+ghost use Rattle.model.specs.Map.{stateSize, flags, paged};
 ghost use Rattle.model.specs.Samples.{word, signed, fourOf, offered, txPower, sampleSize, conds};
 ghost use Rattle.model.specs.Bytes.{memoryOf};
+ghost use Rattle.address.specs.Meaning.{storedAt};
 ghost use Rattle.alarms.specs.Decoded.{numberAs, row, rows, cell};
+use address::Register;
+use address::registers;
+
+// ---- a sample: three status bytes, then fourteen numbers of two bytes
+
+pub const SAMPLE_LEN: usize = 31;
+
+pub const TEMPERATURE_IN: usize = 3;
+
+pub const SUPPLY_IN: usize = TEMPERATURE_IN + 2;
+
+pub const RX_POWER_IN: usize = SUPPLY_IN + 2;
+
+pub const TX_BIAS_IN: usize = RX_POWER_IN + 8;
+
+pub const TX_POWER_IN: usize = TX_BIAS_IN + 8;
 
 // ---- numbers
 
@@ -47,6 +64,25 @@ fn rows_at(s: &[u8], i: usize) -> [[u16; 4]; 3]
     ensures { λ r. ⌜ r ≡ rows (now (s .entry)) i ⌝ }
 {
     [row_at(s, i), row_at(s, i + 8), row_at(s, i + 16)]
+}
+
+// The thresholds that a register of page 03h holds.
+fn limits_at(state: &[u8], r: Register) -> [u16; 4]
+    requires { ⌜ (length (now state) ≡ stateSize) × (r .0 < 4) ⌝ }
+    ensures { λ l. ⌜ l ≡ row (now (state .entry)) (storedAt (r .0) (r .1)) ⌝ }
+{
+    row_at(state, address::index(address::place_of(r)))
+}
+
+// Those of Rx power, Tx bias and Tx power, which stand one after the other.
+fn channel_limits(state: &[u8]) -> [[u16; 4]; 3]
+    requires { ⌜ length (now state) ≡ stateSize ⌝ }
+    ensures { λ l. ⌜ l ≡ rows (now (state .entry)) (paged 3 176) ⌝ }
+{
+    rows_at(
+        state,
+        address::index(address::place_of(registers::RX_POWER_LIMITS)),
+    )
 }
 
 // ---- the alarm rule
@@ -116,22 +152,24 @@ fn temperature(state: &[u8], x: &[u8]) -> u8
     requires { ⌜ (length (now state) ≡ stateSize) × (length (now x) ≡ sampleSize) ⌝ }
     ensures { λ r. ⌜ r ≡ conds (memoryOf (now (state .entry))) (now (x .entry)) 6 ⌝ }
 {
-    16 * four_of(true, number(x, 3), row_at(state, 512)) // page 03h 128
+    let limits = limits_at(state, registers::TEMPERATURE_LIMITS);
+    16 * four_of(true, number(x, TEMPERATURE_IN), limits)
 }
 
 fn supply(state: &[u8], x: &[u8]) -> u8
     requires { ⌜ (length (now state) ≡ stateSize) × (length (now x) ≡ sampleSize) ⌝ }
     ensures { λ r. ⌜ r ≡ conds (memoryOf (now (state .entry))) (now (x .entry)) 7 ⌝ }
 {
-    16 * four_of(false, number(x, 5), row_at(state, 528)) // page 03h 144
+    let limits = limits_at(state, registers::SUPPLY_LIMITS);
+    16 * four_of(false, number(x, SUPPLY_IN), limits)
 }
 
-// Whether bit 2 of page 00h byte 220 offers Tx power.
+// Whether Tx power is offered.
 pub fn offers_tx(state: &[u8]) -> bool
     requires { ⌜ length (now state) ≡ stateSize ⌝ }
     ensures { λ r. ⌜ r ≡ offered (memoryOf (now (state .entry))) txPower ⌝ }
 {
-    state[220] / 4 % 2 == 1
+    address::stored(state, registers::MONITORS_OFFERED) / 4 % 2 == 1
 }
 
 fn only_if(t: bool, v: u8) -> u8
@@ -145,8 +183,8 @@ pub fn conditions(state: &[u8], x: &[u8]) -> [u8; 12]
     requires { ⌜ (length (now state) ≡ stateSize) × (length (now x) ≡ sampleSize) ⌝ }
     ensures { λ r. ⌜ r ≡ table (flags .many) (λ k. conds (memoryOf (now (state .entry))) (now (x .entry)) (flags .first + k)) ⌝ }
 {
-    let v = rows_at(x, 7); // after three status bytes, temperature and supply
-    let t = rows_at(state, 560); // page 03h 176
+    let v = rows_at(x, RX_POWER_IN);
+    let t = channel_limits(state);
     let tx = offers_tx(state);
     [
         x[0],

@@ -1,10 +1,11 @@
 -- The front of a list, its first n places, replaced once and again: what is put there last stands there, though it may be worked out from
 -- what stood there before. So several such steps are one, shown inside the front and past it.
 -- Assumes nothing.
-use mathlib.Core.Path.{_≡_, refl, ap, _∙_}
+use mathlib.Core.Path.{_≡_, refl, sym, ap, _∙_}
 use mathlib.Core.Bool.{true}
 use mathlib.Core.List.{List}
-use Prim.Native.Nat.{ℕ, _+_, _-_, _≤_, _<_}
+use Prim.Native.Nat.{ℕ, _+_, _-_, _≤_, _<_, max, min}
+use native.Mathlib.Nat.{zero-add}
 use native.Mathlib.Omega.{arith}
 use lib.Dec.{ltb, eqb}
 use lib.ListN.{length, set, length-set}
@@ -13,7 +14,7 @@ use borrow.Author.Tests.{lt-ltb, le-ltb}
 use Rattle.laws.specs.Tests.{if_then_else_, covers}
 use Rattle.laws.specs.Lists.{at, patch}
 use Rattle.laws.proofs.Tests.{case, covers-true}
-use Rattle.laws.proofs.Lists.{table-agree, patch-length, patch-in, patch-else, is-patch, at-set}
+use Rattle.laws.proofs.Lists.{table-agree, patch-length, patch-same, patch-in, patch-else, patch-overlap, patch-apart, is-patch, at-set}
 
 pub front-in : (n : ℕ) (f : ℕ → ℕ) (s : List ℕ) (i : ℕ) → i < n → i < length s → at (patch 0 n f s) i ≡ f i
 front-in n f s i h k = let e : 0 + i ≡ i = omega arith in rw e at (patch-in 0 n f s i h (omega arith))
@@ -67,3 +68,19 @@ module _ (n : ℕ) (s : List ℕ) (room : n ≤ length s) where
       is-patch 0 n (λ j. if eqb j k then v else at s j) s (set s k v) (length-set s k v)
       (λ j l m. let z : 0 + j ≡ j = omega arith in rw z (at-set s k v j (omega arith)))
       (λ i l m. getD-set-other s k i v 0 (λ z. m (omega arith) (omega arith)))
+
+-- ---- the front stands for the n numbers from a on; those of them that are among the m numbers from b on take what g says of them
+
+module _ (a n b m : ℕ) (g : ℕ → ℕ) (s : List ℕ) where
+  at-front : patch 0 n (λ j. if covers b m (a + j) then g (a + j) else at s (0 + j)) s ≡ patch 0 n (λ j. if covers b m (a + j) then g (a + j) else at s j) s
+  at-front = patch-same 0 n _ _ s (λ j l. let z : 0 + j ≡ j = omega arith in rw z)
+
+  pub front-overlap : (skip many : ℕ) (f : ℕ → ℕ) → skip ≡ max a b - a → many ≡ min (a + n) (b + m) - max a b → ((j : ℕ) → j < many → f j ≡ g (max a b + j))
+      → patch skip many f s ≡ patch 0 n (λ j. if covers b m (a + j) then g (a + j) else at s j) s
+  front-overlap skip many f e k same =
+      let z : skip ≡ 0 + (max a b - a) = e ∙ sym (zero-add (max a b - a)) in
+      rw z (patch-overlap 0 a n b m (max a b) many f g s refl k same ∙ at-front)
+
+  -- there are none
+  pub front-apart : min (a + n) (b + m) - max a b ≡ 0 → s ≡ patch 0 n (λ j. if covers b m (a + j) then g (a + j) else at s j) s
+  front-apart e = patch-apart 0 a n b m g s (omega arith) ∙ at-front

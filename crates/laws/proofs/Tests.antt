@@ -3,9 +3,9 @@
 -- Assumes nothing.
 use mathlib.Core.Path.{_≡_, refl, sym, _∙_}
 use mathlib.Core.Bool.{Bool, true, false, not, true≢false, _&&_, _||_, and-false, Bool·beq}
-use Prim.Native.Nat.{ℕ, _+_, _-_, _≤_, _<_}
+use Prim.Native.Nat.{ℕ, suc, _+_, _-_, _≤_, _<_}
 use lib.Dec.{leb, ltb, eqb}
-use borrow.Author.Tests.{eqb-true, eqb-false, lt-leb, le-leb, leb-true, lt-ltb, le-ltb, ltb-true, ltb-false}
+use borrow.Author.Tests.{eqb-true, eqb-false, lt-leb, le-leb, leb-true, leb-false, lt-ltb, le-ltb, ltb-true, ltb-false}
 use native.Mathlib.Omega.{arith}
 use Rattle.laws.specs.Tests.{if_then_else_, one, covers}
 
@@ -97,6 +97,12 @@ pub covers-one : (a i : ℕ) → covers a 1 i ≡ eqb i a
 covers-one a i = case (eqb i a)
     (λ t. let e = eqb-true i a t in rw t (covers-in a 1 i (omega arith) (omega arith)))
     (λ t. let d = eqb-false i a t in rw t (covers-none a 1 i (λ l u. d (omega arith))))
+
+-- a run by its first and its last
+pub covers-to : (a b i : ℕ) → a ≤ b → covers a (suc b - a) i ≡ (leb a i && leb i b)
+covers-to a b i h = let e : a + (suc b - a) ≡ suc b = omega arith in rw e (case (leb i b)
+    (λ t. let l = leb-true i b t in rw (t, lt-ltb i (suc b) (omega arith)))
+    (λ t. let l = leb-false i b t in rw (t, le-ltb i (suc b) (omega arith))))
 
 -- m - n is below a where m is below a + n
 pub sub-ltb : (m a n : ℕ) → n ≤ m → ltb (m - n) a ≡ ltb m (a + n)

@@ -1,7 +1,7 @@
 // The sample, on lent memory.
 // Proved: for every state and sample, the refusal, both counts and the bytes left are those of the model's sample.
 ghost use mathlib.Core.Path.{_≡_};
-ghost use Prim.Native.Nat.{_+_};
+ghost use Prim.Native.Nat.{suc, _<_, _≤_, _+_, _-_};
 ghost use lib.ListN.{length};
 ghost use Rattle.laws.specs.Tests.{if_then_else_};
 ghost use Rattle.laws.specs.Lists.{at, patch};
@@ -10,9 +10,10 @@ ghost use Rattle.model.specs.Map.{memorySize, stateSize};
 ghost use Rattle.model.specs.Samples.{sampleSize, stored, offered, txPower};
 ghost use Rattle.model.specs.Bytes.{memoryOf, refusalOf};
 ghost use Rattle.model.specs.Contracts.{Reported};
+ghost use Rattle.address.specs.Meaning.{storedAt};
+use address::Register;
+use address::registers;
 use record::Answers;
-
-pub const SAMPLE_LEN: usize = 31;
 
 // The refusals of a sample, or 0.
 fn refusal_of(state: &[u8], x: &[u8]) -> u8
@@ -26,33 +27,43 @@ fn refusal_of(state: &[u8], x: &[u8]) -> u8
     if !first | !second {
         return 3;
     }
-    if x.len() != SAMPLE_LEN {
+    if x.len() != alarms::SAMPLE_LEN {
         return 8;
     }
     0
 }
 
-// Stores the sample's Tx power, where byte 220 offers it.
+// Stores in a register the sample's bytes from `from` on.
+fn store_in(state: &mut [u8], r: Register, x: &[u8], from: usize)
+    requires { ⌜ (length (now state) ≡ stateSize) × (r .0 < 4) × (r .1 ≤ r .2) × (storedAt (r .0) (r .1) + (suc (r .2) - r .1) ≤ stateSize) × (from + (suc (r .2) - r .1) ≤ length (now x)) ⌝ }
+    ensures { λ _. ⌜ now (state .exit) ≡ patch (storedAt (r .0) (r .1)) (suc (r .2) - r .1) (λ j. at (now (x .entry)) (from + j)) (now (state .entry)) ⌝ }
+{
+    let run = address::places_of(r);
+    moves::copy(state, address::index(run.first), x, from, run.many);
+}
+
+// Stores its Tx power, where that is offered.
 fn store_tx(state: &mut [u8], x: &[u8])
     requires { ⌜ (length (now state) ≡ stateSize) × (length (now x) ≡ sampleSize) ⌝ }
     ensures { λ _. ⌜ now (state .exit) ≡ (if offered (memoryOf (now (state .entry))) txPower then patch 50 8 (λ j. at (now (x .entry)) (23 + j)) (now (state .entry)) else now (state .entry)) ⌝ }
 {
     if alarms::offers_tx(state) {
-        moves::copy(state, 50, x, 23, 8);
+        store_in(state, registers::TX_POWER, x, alarms::TX_POWER_IN);
     }
 }
 
-// Stores the sample's numbers where they are read, and takes Data_Not_Ready away.
+// Stores its numbers where they are read, and takes Data_Not_Ready away.
 fn store(state: &mut [u8], x: &[u8])
     requires { ⌜ (length (now state) ≡ stateSize) × (length (now x) ≡ sampleSize) ⌝ }
     ensures { λ _. ⌜ now (state .exit) ≡ patch 0 memorySize (λ i. stored (memoryOf (now (state .entry))) (now (x .entry)) i (at (now (state .entry)) i)) (now (state .entry)) ⌝ }
 {
     store_tx(state, x);
-    moves::copy(state, 42, x, 15, 8); // Tx bias
-    moves::copy(state, 34, x, 7, 8); // Rx power
-    moves::copy(state, 26, x, 5, 2); // supply
-    moves::copy(state, 22, x, 3, 2); // temperature
-    state[address::STATUS] = state[address::STATUS] - state[address::STATUS] % 2;
+    store_in(state, registers::TX_BIAS, x, alarms::TX_BIAS_IN);
+    store_in(state, registers::RX_POWER, x, alarms::RX_POWER_IN);
+    store_in(state, registers::SUPPLY, x, alarms::SUPPLY_IN);
+    store_in(state, registers::TEMPERATURE, x, alarms::TEMPERATURE_IN);
+    let status = address::index(address::place_of(registers::STATUS));
+    state[status] = state[status] - state[status] % 2;
 }
 
 // An accepted sample.

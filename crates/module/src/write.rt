@@ -12,8 +12,12 @@ ghost use Rattle.model.specs.Writing.{store, puts};
 ghost use Rattle.model.specs.Bytes.{memoryOf, recordOf, stateOf, bytesOf, refusalOf};
 ghost use Rattle.model.specs.Contracts.{WriteDone};
 use address::HostAddress;
+use address::HostRun;
 use address::Slot;
 use record::Answer;
+
+// The most bytes that one write writes.
+const MOST: usize = 4;
 
 // ---- refusals
 
@@ -29,31 +33,31 @@ fn is_mine(page: u8, a: HostAddress) -> bool
     }
 }
 
-// Whether all `n` addresses from `a` on are.
-fn are_mine(page: u8, a: usize, n: usize) -> bool
-    requires { ⌜ (page < 4) × (a + n ≤ 256) ⌝ }
-    ensures { λ r. ⌜ r ≡ allMine page a n ⌝ }
+// Whether all of a run are.
+fn are_mine(page: u8, run: HostRun) -> bool
+    requires { ⌜ (page < 4) × (run .first .0 + run .many ≤ 256) ⌝ }
+    ensures { λ r. ⌜ r ≡ allMine page (run .first .0) (run .many) ⌝ }
 {
     let mut all = true;
-    let mut k = n;
+    let mut k = run.many;
     while 0 < k {
         k -= 1;
-        all = is_mine(page, address::host((a + k) as u8)) & all;
+        all = is_mine(page, address::nth(run, k)) & all;
     }
     all
 }
 
 // Whether a recorder's write touches a byte not its own.
-fn is_foreign(state: &[u8], port: u64, a: usize, n: usize) -> bool
-    requires { ⌜ (length (now state) ≡ stateSize) × (a + n ≤ 256) ⌝ }
+fn is_foreign(state: &[u8], port: u64, run: HostRun) -> bool
+    requires { ⌜ (length (now state) ≡ stateSize) × (run .first .0 + run .many ≤ 256) ⌝ }
     requires { ⌜ sound (memoryOf (now state)) (recordOf (now state) (base (caller port))) ≡ true ⌝ }
-    ensures { λ r. ⌜ r ≡ foreign (stateOf (now (state .entry))) port a n ⌝ }
+    ensures { λ r. ⌜ r ≡ foreign (stateOf (now (state .entry))) port (run .first .0) (run .many) ⌝ }
 {
     if port == 1 {
         return false;
     }
     let page = record::page_of(state, address::record_of(port));
-    !are_mine(page, a, n)
+    !are_mine(page, run)
 }
 
 // The refusals 4, 5 and 7 of a write of `n` bytes, or 0.
@@ -62,14 +66,20 @@ fn run_refusal(state: &[u8], port: u64, address: u64, n: usize) -> u8
     requires { ⌜ sound (memoryOf (now state)) (recordOf (now state) (base (caller port))) ≡ true ⌝ }
     ensures { λ r. ⌜ r ≡ firstOf (writeRows (stateOf (now (state .entry))) port address n) ⌝ }
 {
-    if (n == 0) | (4 < n) {
+    if (n == 0) | (MOST < n) {
         return 4;
     }
     let count = n as u64;
-    if (256 - count < address) | ((address < 128) & (128 - count < address)) {
+    if (address::HOSTS - count < address)
+        | ((address < address::UPPER) & (address::UPPER - count < address))
+    {
         return 5;
     }
-    if is_foreign(state, port, address as usize, n) {
+    let run = HostRun {
+        first: address::host(address as u8),
+        many: n,
+    };
+    if is_foreign(state, port, run) {
         return 7;
     }
     0
@@ -107,12 +117,12 @@ fn write_byte(state: &mut [u8], port: u64, page: u8, a: HostAddress, v: u8)
 }
 
 // The bytes of a write, one after the other; `page` is the page selected before the call.
-fn write_bytes(state: &mut [u8], port: u64, page: u8, a: usize, bytes: &[u8])
-    requires { ⌜ (length (now state) ≡ stateSize) × (page < 4) × (a + length (now bytes) ≤ 256) ⌝ }
-    ensures { λ _. ⌜ now (state .exit) ≡ bytesOf (puts (stateOf (now (state .entry))) (caller port) page a (now (bytes .entry))) ⌝ }
+fn write_bytes(state: &mut [u8], port: u64, page: u8, run: HostRun, bytes: &[u8])
+    requires { ⌜ (length (now state) ≡ stateSize) × (page < 4) × (run .first .0 + run .many ≤ 256) × (length (now bytes) ≡ run .many) ⌝ }
+    ensures { λ _. ⌜ now (state .exit) ≡ bytesOf (puts (stateOf (now (state .entry))) (caller port) page (run .first .0) (now (bytes .entry))) ⌝ }
 {
     for k in 0..bytes.len() {
-        write_byte(state, port, page, address::host((a + k) as u8), bytes[k]);
+        write_byte(state, port, page, address::nth(run, k), bytes[k]);
     }
 }
 
@@ -121,9 +131,13 @@ fn accept(state: &mut [u8], port: u64, address: u64, bytes: &[u8]) -> u8
     requires { ⌜ refusalOf (now state) (write port address (now bytes)) ≡ 0 ⌝ }
     ensures { λ r. ⌜ WriteDone (now (state .entry)) port address (now (bytes .entry)) 0 r (now (state .exit)) ⌝ }
 {
+    let run = HostRun {
+        first: address::host(address as u8),
+        many: bytes.len(),
+    };
     let base = address::record_of(port);
     let page = record::page_of(state, base);
-    write_bytes(state, port, page, address as usize, bytes);
+    write_bytes(state, port, page, run, bytes);
     record::count_of(state, base)
 }
 

@@ -1,9 +1,11 @@
 // The identity fields of a page: whether the page is sound, where a field starts in it, and how long it is.
 ghost use mathlib.Core.Path.{_≡_};
-ghost use Prim.Native.Nat.{_+_, _≤_};
+ghost use Prim.Native.Nat.{suc, _+_, _-_, _≤_};
 ghost use lib.ListN.{length};
 ghost use Rattle.model.specs.Map.{pageSize};
 ghost use Rattle.model.specs.Readout.{soundPage, fieldRun, fieldStart, trimmed, fieldLength};
+use address::Register;
+use address::registers;
 
 // The three bytes that are handed back whole.
 const OUI: u64 = 2;
@@ -20,19 +22,27 @@ pub fn is_sound(page: &[u8]) -> bool
     codes::are_right(page)
 }
 
+// The register of page 00h that a field is.
+fn register_of(field: u64) -> Register
+    requires { ⌜ (1 ≤ field) × (field ≤ 6) ⌝ }
+    ensures { λ r. ⌜ (r .1 ≡ fieldRun field .first) × (suc (r .2) - r .1 ≡ fieldRun field .many) × (pageSize ≤ r .1) × (r .1 ≤ r .2) ⌝ }
+{
+    match field {
+        1 => registers::VENDOR_NAME,
+        2 => registers::VENDOR_OUI,
+        3 => registers::PART_NUMBER,
+        4 => registers::REVISION,
+        5 => registers::SERIAL_NUMBER,
+        _ => registers::DATE_CODE,
+    }
+}
+
 // Where a field starts in its page.
 pub fn start_of(field: u64) -> u8
     requires { ⌜ (1 ≤ field) × (field ≤ 6) ⌝ }
     ensures { λ r. ⌜ r ≡ fieldStart field ⌝ }
 {
-    match field {
-        1 => 20, // vendor name, 148
-        2 => 37, // OUI, 165
-        3 => 40, // part number, 168
-        4 => 56, // revision, 184
-        5 => 68, // serial, 196
-        _ => 84, // date, 212
-    }
+    address::in_page(register_of(field)) as u8
 }
 
 // How many bytes a field has in its page.
@@ -40,12 +50,7 @@ fn many_of(field: u64) -> u8
     requires { ⌜ (1 ≤ field) × (field ≤ 6) ⌝ }
     ensures { λ r. ⌜ r ≡ fieldRun field .many ⌝ }
 {
-    match field {
-        2 => 3,
-        4 => 2,
-        6 => 8,
-        _ => 16,
-    }
+    address::length_of(register_of(field)) as u8
 }
 
 // How many of the `many` bytes from `start` on are left without trailing blanks.

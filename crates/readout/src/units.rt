@@ -4,10 +4,12 @@ ghost use mathlib.Core.Bool.{not, _||_};
 ghost use Prim.Native.Nat.{_+_, _<_, _≤_};
 ghost use lib.ListN.{length};
 ghost use Rattle.laws.specs.Bits.{has};
-ghost use Rattle.model.specs.Map.{memorySize, stateSize, statusAt, paged};
+ghost use Rattle.model.specs.Map.{memorySize, stateSize, statusAt, pageSize, paged};
 ghost use Rattle.model.specs.Samples.{word, degrees, value, quantities, offered};
 ghost use Rattle.model.specs.Readout.{Exactly, inUnit, monitored, monitorAt, quantity};
 ghost use Rattle.model.specs.Bytes.{memoryOf};
+use address::Register;
+use address::registers;
 
 // ---- units
 
@@ -63,9 +65,11 @@ pub fn stored_at(number: u64) -> usize
     ensures { λ r. ⌜ (r ≡ monitorAt (monitored number quantities) number) × (r ≤ 56) ⌝ }
 {
     match number {
-        0 => 22,
-        1 => 26,
-        _ => 30 + 2 * (number as usize), // from 34 on, one after the other
+        0 => address::index(address::place_of(registers::TEMPERATURE)),
+        1 => address::index(address::place_of(registers::SUPPLY)),
+        _ => {
+            address::index(address::place_of(registers::CHANNELS)) + 2 * (number as usize - 2) // one after the other
+        }
     }
 }
 
@@ -74,21 +78,29 @@ pub fn is_unmeasured(state: &[u8], q: u64) -> bool
     requires { ⌜ (length (now state) ≡ stateSize) × (q < 5) ⌝ }
     ensures { λ r. ⌜ r ≡ (has 0 (memoryOf (now (state .entry)) statusAt) || not (offered (memoryOf (now (state .entry))) (quantity q))) ⌝ }
 {
-    (state[address::STATUS] % 2 == 1) | ((q == 4) & !alarms::offers_tx(state))
+    (address::stored(state, registers::STATUS) % 2 == 1) | ((q == 4) & !alarms::offers_tx(state))
 }
 
 // ---- limits
 
-// Where the first of a quantity's thresholds stands, in page 03h.
+// The register of page 03h that has a quantity's thresholds.
+fn limits_of(q: u64) -> Register
+    requires { ⌜ q < 5 ⌝ }
+    ensures { λ r. ⌜ (r .0 ≡ 3) × (r .1 ≡ quantity q .limitsFrom) × (pageSize ≤ r .1) × (r .1 ≤ 192) ⌝ }
+{
+    match q {
+        0 => registers::TEMPERATURE_LIMITS,
+        1 => registers::SUPPLY_LIMITS,
+        2 => registers::RX_POWER_LIMITS,
+        3 => registers::TX_BIAS_LIMITS,
+        _ => registers::TX_POWER_LIMITS,
+    }
+}
+
+// Where the first of them stands.
 pub fn thresholds_at(q: u64) -> usize
     requires { ⌜ q < 5 ⌝ }
     ensures { λ r. ⌜ (r ≡ paged 3 (quantity q .limitsFrom)) × (r ≤ 576) ⌝ }
 {
-    match q {
-        0 => 512, // 128
-        1 => 528, // 144
-        2 => 560, // 176
-        3 => 568, // 184
-        _ => 576, // 192
-    }
+    address::index(address::place_of(limits_of(q)))
 }

@@ -4,8 +4,8 @@
 use mathlib.Core.Path.{_≡_, refl, sym, ap, _∙_}
 use mathlib.Core.Bool.{true}
 use mathlib.Core.List.{List, [], _∷_, _++_, map, map-append}
-use Prim.Native.Nat.{ℕ, zero, suc, _+_, _<_}
-use native.Mathlib.Nat.{add-zero}
+use Prim.Native.Nat.{ℕ, zero, suc, _+_, _-_, _<_, max, min}
+use native.Mathlib.Nat.{add-zero, max-comm, min-comm}
 use native.Mathlib.Omega.{arith}
 use lib.Bits.{bitOr, bitAnd, bitXor}
 use lib.Count.{ones}
@@ -16,10 +16,10 @@ use Rattle.laws.specs.Tests.{if_then_else_, covers, Row, firstOf}
 use Rattle.laws.specs.Lists.{at, patch, sum}
 use Rattle.laws.proofs.Tests.{and-left, and-right}
 use Rattle.laws.proofs.Rows.{first-none, first-append}
-use Rattle.laws.proofs.Lists.{patch-same, patch-next, patch-more}
+use Rattle.laws.proofs.Lists.{patch-same, patch-next, patch-more, patch-overlap, patch-apart}
 use Rattle.laws.proofs.Sums.{sum-last}
 use Rattle.ports.specs.Bytes
-use Rattle.model.specs.Ports.{caller}
+use Rattle.model.specs.Ports.{caller, Places}
 use Rattle.model.specs.Map.{flags, recordSize, stateSize, base, sound}
 use Rattle.model.specs.Refusals.{wrongSize, portRows}
 use Rattle.model.specs.Reading.{cleared}
@@ -55,13 +55,22 @@ module _ (s cs : List ℕ) (b : ℕ) where
 
 -- ---- clearing
 
--- of the flag bytes those in the run become 0
-pub clear-flags : (s : List ℕ) (b a n : ℕ)
-    → patch b (flags .many) (λ j. if covers a n (flags .first + j) then 0 else at s (b + j)) s ≡ patch b (flags .many) (cleared a n (recordOf s b)) s
-unfolding cleared
-clear-flags s b a n =
-    patch-same b (flags .many) (λ j. if covers a n (flags .first + j) then 0 else at s (b + j)) (cleared a n (recordOf s b)) s
-    (λ j h. rw (lt-ltb j (flags .many) h, lt-ltb j recordSize (omega arith)))
+-- of the flag bytes those become 0 that the n addresses from a on have: m of them, from place f on
+module _ (s : List ℕ) (b a n : ℕ) where
+  abbrev emptied : ℕ → ℕ
+  emptied j = if covers a n (flags .first + j) then 0 else at s (b + j)
+
+  clear-flags : patch b (flags .many) emptied s ≡ patch b (flags .many) (cleared a n (recordOf s b)) s
+  unfolding cleared
+  clear-flags = patch-same b (flags .many) emptied (cleared a n (recordOf s b)) s (λ j h. rw (lt-ltb j (flags .many) h, lt-ltb j recordSize (omega arith)))
+
+  pub clear-some : (f m : ℕ) → f ≡ b + (max a 3 - 3) → m ≡ min (a + n) 15 - max a 3 → patch f m (λ j. 0) s ≡ patch b (flags .many) (cleared a n (recordOf s b)) s
+  clear-some f m e d =
+      rw (e, max-comm a 3)
+      (patch-overlap b 3 12 a n (max 3 a) m (λ j. 0) (λ k. 0) s refl (rw (min-comm (a + n) 15, max-comm a 3) at d) (λ j h. refl) ∙ clear-flags)
+
+  pub clear-none : min (a + n) 15 - max a 3 ≡ 0 → s ≡ patch b (flags .many) (cleared a n (recordOf s b)) s
+  clear-none e = patch-apart b 3 12 a n (λ k. 0) s (omega arith) ∙ clear-flags
 
 -- ---- the count
 
@@ -75,8 +84,6 @@ beside-last (suc j) f m =
     rw (e, ← p, ← q) (ap (λ (l : List Pair). record { flagByte = f; maskByte = m } ∷ l) (beside-last j (suc f) (suc m)))
 
 -- one pair more
-pub count-more : (s : List ℕ) (b j f m : ℕ) → f + j < recordSize → m + j < recordSize → at s (b + (f + j)) < 256
-    → sum (map (countPair (recordOf s b)) (beside (j + 1) f m))
-    ≡ sum (map (countPair (recordOf s b)) (beside j f m)) + ones (bitXor (at s (b + (f + j))) (bitAnd (at s (b + (f + j))) (at s (b + (m + j)))))
-count-more s b j f m h k l =
-    rw (beside-last j f m, map-append, sum-last, ones-through (at s (b + (f + j))) (at s (b + (m + j))) l, lt-ltb (f + j) recordSize h, lt-ltb (m + j) recordSize k)
+pub count-more : (o : Places) (j f m : ℕ) → o (f + j) < 256
+    → sum (map (countPair o) (beside (j + 1) f m)) ≡ sum (map (countPair o) (beside j f m)) + ones (bitXor (o (f + j)) (bitAnd (o (f + j)) (o (m + j))))
+count-more o j f m l = rw (beside-last j f m, map-append, sum-last, ones-through (o (f + j)) (o (m + j)) l)

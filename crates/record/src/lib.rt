@@ -17,7 +17,9 @@ ghost use Rattle.record.specs.Beside.{beside};
 ghost use Rattle.model.specs.Bytes.{memoryOf, recordOf, stateOf};
 ghost use Rattle.address.specs.Meaning.{means};
 use address::Class;
+use address::HostRun;
 use address::Place;
+use address::registers;
 
 // ---- answers
 
@@ -34,6 +36,15 @@ pub struct Answers {
     pub recorder: u8,
 }
 
+// Byte `k` of the record at `base`.
+fn own(state: &[u8], base: Place, k: usize) -> u8
+    requires { ⌜ (length (now state) ≡ stateSize) × (base .0 + recordSize ≤ stateSize) × (k < recordSize) ⌝ }
+    ensures { λ r. ⌜ r ≡ recordOf (now (state .entry)) (base .0) k ⌝ }
+{
+    let i = address::index(address::in_record(base, k));
+    state[i]
+}
+
 // ---- soundness
 
 // Whether the module has the page: by bit 2 of lower byte 2, and bits 6 and 7 of page 00h byte 195.
@@ -41,10 +52,20 @@ pub fn is_supported(state: &[u8], page: u8) -> bool
     requires { ⌜ length (now state) ≡ stateSize ⌝ }
     ensures { λ r. ⌜ r ≡ supported (memoryOf (now (state .entry))) page ⌝ }
 {
-    let flat = state[2] / 4 % 2 == 1;
-    let first = state[195] / 64 % 2 == 1;
-    let second = state[195] / 128 % 2 == 1;
-    (page == 0) | (!flat & ((page == 3) | (((page == 1) & first) | ((page == 2) & second))))
+    if page == 0 {
+        return true;
+    }
+    if address::stored(state, registers::STATUS) / 4 % 2 == 1 {
+        return false;
+    }
+    if page == 3 {
+        return true;
+    }
+    let offered = address::stored(state, registers::PAGES_OFFERED);
+    if page == 1 {
+        return offered / 64 % 2 == 1;
+    }
+    (page == 2) & (offered / 128 % 2 == 1)
 }
 
 // The page that the record at `base` selects.
@@ -52,8 +73,7 @@ pub fn page_of(state: &[u8], base: Place) -> u8
     requires { ⌜ (length (now state) ≡ stateSize) × (base .0 + recordSize ≤ stateSize) ⌝ }
     ensures { λ r. ⌜ r ≡ recordOf (now (state .entry)) (base .0) pageAt ⌝ }
 {
-    let b = address::index(base);
-    state[b + address::PAGE_IN]
+    own(state, base, address::PAGE_IN)
 }
 
 // Whether the record at `base` is sound.
@@ -61,14 +81,12 @@ pub fn is_sound(state: &[u8], base: Place) -> bool
     requires { ⌜ (length (now state) ≡ stateSize) × (base .0 + recordSize ≤ stateSize) ⌝ }
     ensures { λ r. ⌜ r ≡ sound (memoryOf (now (state .entry))) (recordOf (now (state .entry)) (base .0)) ⌝ }
 {
-    let b = address::index(base);
-    let page = state[b + address::PAGE_IN];
-    is_supported(state, page)
-        & ((state[b + address::VENDOR_FLAGS_IN] == 0)
-            & ((state[b + address::TEMPERATURE_FLAGS_IN] % 16 == 0)
-                & ((state[b + address::SUPPLY_FLAGS_IN] % 16 == 0)
-                    & ((state[b + address::TEMPERATURE_MASK_IN] % 16 == 0)
-                        & (state[b + address::SUPPLY_MASK_IN] % 16 == 0)))))
+    is_supported(state, page_of(state, base))
+        & ((own(state, base, address::VENDOR_FLAGS_IN) == 0)
+            & ((own(state, base, address::TEMPERATURE_FLAGS_IN) % 16 == 0)
+                & ((own(state, base, address::SUPPLY_FLAGS_IN) % 16 == 0)
+                    & ((own(state, base, address::TEMPERATURE_MASK_IN) % 16 == 0)
+                        & (own(state, base, address::SUPPLY_MASK_IN) % 16 == 0)))))
 }
 
 // The refusals 1 to 3 of any call by a port, or 0.
@@ -101,10 +119,9 @@ fn count_beside(state: &[u8], base: Place, n: usize, f: usize, m: usize) -> u8
     requires { ⌜ (length (now state) ≡ stateSize) × (base .0 + recordSize ≤ stateSize) × (f + n ≤ recordSize) × (m + n ≤ recordSize) ⌝ }
     ensures { λ r. ⌜ (r ≡ sum (map (countPair (recordOf (now (state .entry)) (base .0))) (beside n f m))) × (r ≤ 8 * n) ⌝ }
 {
-    let b = address::index(base);
     let mut c: u8 = 0;
     for j in 0..n {
-        c += let_by(state[b + (f + j)], state[b + (m + j)]);
+        c += let_by(own(state, base, f + j), own(state, base, m + j));
     }
     c
 }
@@ -118,7 +135,7 @@ pub fn count_of(state: &[u8], base: Place) -> u8
         state,
         base,
         address::LOW_MASKS_LEN,
-        0,
+        address::FLAGS_IN,
         address::LOW_MASKS_IN,
     )
         + count_beside(
@@ -135,7 +152,7 @@ pub fn status(state: &[u8], base: Place) -> u8
     requires { ⌜ (length (now state) ≡ stateSize) × (base .0 + recordSize ≤ stateSize) ⌝ }
     ensures { λ r. ⌜ r ≡ statusByte (memoryOf (now (state .entry))) (recordOf (now (state .entry)) (base .0)) ⌝ }
 {
-    let stored = state[address::STATUS];
+    let stored = address::stored(state, registers::STATUS);
     if count_of(state, base) == 0 {
         return stored / 4 % 2 * 4 + 2 + stored % 2;
     }
@@ -144,23 +161,26 @@ pub fn status(state: &[u8], base: Place) -> u8
 
 // ---- flags
 
-// Clears the flag bytes that the run of `n` addresses from `a` on has.
-pub fn clear(state: &mut [u8], base: Place, a: usize, n: usize)
-    requires { ⌜ (length (now state) ≡ stateSize) × (base .0 + recordSize ≤ stateSize) × (a + n ≤ 256) ⌝ }
-    ensures { λ _. ⌜ now (state .exit) ≡ patch (base .0) (flags .many) (cleared a n (recordOf (now (state .entry)) (base .0))) (now (state .entry)) ⌝ }
+// Clears the flag bytes that a run of addresses has.
+pub fn clear(state: &mut [u8], base: Place, run: HostRun)
+    requires { ⌜ (length (now state) ≡ stateSize) × (base .0 + recordSize ≤ stateSize) × (run .first .0 + run .many ≤ 256) ⌝ }
+    ensures { λ _. ⌜ now (state .exit) ≡ patch (base .0) (flags .many) (cleared (run .first .0) (run .many) (recordOf (now (state .entry)) (base .0))) (now (state .entry)) ⌝ }
 {
-    let b = address::index(base);
-    moves::fill_overlap(state, b, address::FLAGS, address::FLAGS_LEN, a, n, 0);
+    let piece = address::piece_of(run, address::flag_lane(base));
+    let many = piece.places.many;
+    if many != 0 {
+        moves::fill(state, address::index(piece.places.first), many, 0);
+    }
 }
 
-// Raises the conditions `cs` of the twelve flag bytes.
+// Raises the conditions `cs` of the twelve flag bytes, a record's first.
 pub fn raise(state: &mut [u8], base: Place, cs: [u8; 12])
     requires { ⌜ (length (now state) ≡ stateSize) × (base .0 + recordSize ≤ stateSize) ⌝ }
     ensures { λ _. ⌜ now (state .exit) ≡ patch (base .0) (flags .many) (λ k. bitOr (at (now (state .entry)) (base .0 + k)) (at cs k)) (now (state .entry)) ⌝ }
 {
-    let b = address::index(base);
     for k in 0..address::FLAGS_LEN {
-        state[b + k] = state[b + k] | cs[k];
+        let i = address::index(address::in_record(base, k));
+        state[i] = state[i] | cs[k];
     }
 }
 

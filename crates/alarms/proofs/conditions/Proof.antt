@@ -8,8 +8,8 @@ use Rattle.alarms.proofs.conditions.Tie as tie
 rows-at-requires : tie.Need-rows-at-requires
 rows-at-requires c κs = search needs
 
-rows-at-requires-2 : tie.Need-rows-at-requires-2
-rows-at-requires-2 c κs = search needs
+channel-limits-requires : tie.Need-channel-limits-requires
+channel-limits-requires c κs = search needs
 
 offers-tx-requires : tie.Need-offers-tx-requires
 offers-tx-requires c κs = search needs
@@ -60,14 +60,14 @@ returns c =
     let o = s .before .before .before .before .before in
     let x = o .before .before .before .before .before .args in
     rw (s .before .temperature .ensures, s .supply .ensures, f .before .before .before .flag-byte .ensures, f .before .before .flag-byte2 .ensures, f .before .flag-byte3 .ensures, f .flag-byte4 .ensures, c .before .before .only-if .ensures, c .before .before .before .flag-byte5 .ensures, c .only-if2 .ensures, c .before .flag-byte6 .ensures)
-    (twelve (x .state .now) (x .x .now) (o .before .before .rows-at .ensures) (o .before .rows-at2 .ensures) (o .offers-tx .ensures))
+    (twelve (x .state .now) (x .x .now) (o .before .before .rows-at .ensures) (o .before .channel-limits .ensures) (o .offers-tx .ensures))
 
 pub conditions-spec : {M : Type 1} → statement M
 conditions-spec =
     tie.close
     (tie.spec
     rows-at-requires
-    rows-at-requires-2
+    channel-limits-requires
     offers-tx-requires
     shared-slice-read-t7
     shared-slice-read-t9

@@ -2,16 +2,16 @@
 -- Assumes nothing.
 use mathlib.Core.Path.{sym}
 use native.Mathlib.Nat.{add-zero}
-use Rattle.model.specs.Samples.{conds, conditions}
 use borrow.Author.Needs.{needs}
+use Rattle.model.specs.Samples.{conditions, conds}
 use Rattle.alarms.proofs.temperature.Statement.{statement}
 use Rattle.alarms.proofs.temperature.Tie as tie
 
+limits-at-requires : tie.Need-limits-at-requires
+limits-at-requires c κs = search needs
+
 number-requires : tie.Need-number-requires
 number-requires c κs = search needs
-
-row-at-requires : tie.Need-row-at-requires
-row-at-requires c κs = search needs
 
 four-of-requires : tie.Need-four-of-requires
 four-of-requires c κs = search needs
@@ -21,8 +21,8 @@ mul-result c = search needs
 
 returns : tie.Need-returns
 unfolding conds conditions
-returns c = rw (c .four-of .ensures .0, c .before .before .number .ensures, c .before .row-at .ensures) (sym (add-zero _))
+returns c = rw (c .four-of .ensures .0, c .before .number .ensures, c .before .before .limits-at .ensures) (sym (add-zero _))
 
 pub temperature-spec : {M : Type 1} → statement M
 temperature-spec =
-    tie.close (tie.spec number-requires row-at-requires four-of-requires mul-result returns)
+    tie.close (tie.spec limits-at-requires number-requires four-of-requires mul-result returns)

@@ -5,28 +5,15 @@ use Rattle.model.specs.Reset.{codesRight}
 use Rattle.codes.proofs.are_right.Statement.{statement}
 use Rattle.codes.proofs.are_right.Tie as tie
 
-check-code-requires : tie.Need-check-code-requires
-check-code-requires c κs = search needs
+has-code-requires : tie.Need-has-code-requires
+has-code-requires c κs = search needs
 
-check-code-requires-2 : tie.Need-check-code-requires-2
-check-code-requires-2 c κs = search needs
-
-shared-slice-read-result : tie.Need-shared-slice-read-result
-shared-slice-read-result c = search needs
-
-shared-slice-read-result-2 : tie.Need-shared-slice-read-result-2
-shared-slice-read-result-2 c = search needs
+has-code-requires-2 : tie.Need-has-code-requires-2
+has-code-requires-2 c κs = search needs
 
 returns : tie.Need-returns
 unfolding codesRight
-returns c = cc
+returns c = rw (c .before .has-code .ensures, c .has-code2 .ensures)
 
 pub are-right-spec : {M : Type 1} → statement M
-are-right-spec =
-    tie.close
-    (tie.spec
-    check-code-requires
-    check-code-requires-2
-    shared-slice-read-result
-    shared-slice-read-result-2
-    returns)
+are-right-spec = tie.close (tie.spec has-code-requires has-code-requires-2 returns)

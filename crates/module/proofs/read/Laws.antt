@@ -1,15 +1,15 @@
 -- Laws of a read: what an accepted one relies on, and that what it leaves is what the model's read leaves.
 -- Assumes nothing.
 use mathlib.Core.Path.{_≡_, refl, sym, _∙_}
-use mathlib.Core.Bool.{true}
+use mathlib.Core.Bool.{true, false}
 use mathlib.Core.List.{List}
 use Prim.Native.Nat.{ℕ, _+_, _≤_, _<_}
 use native.Mathlib.Omega.{arith}
-use lib.Dec.{ltb}
+use lib.Dec.{ltb, eqb}
 use lib.ListN.{length}
-use borrow.Author.Tests.{ltb-true, ltb-false, lt-ltb, le-ltb, not-true, not-false}
+use borrow.Author.Tests.{eqb-false, ltb-true, ltb-false, lt-ltb, le-ltb, not-true, not-false}
 use Rattle.laws.specs.Lists.{at, patch}
-use Rattle.laws.proofs.Tests.{case, and-left, and-right}
+use Rattle.laws.proofs.Tests.{case, and-left, and-right, or-left}
 use Rattle.laws.proofs.Rows.{first-none}
 use Rattle.laws.proofs.Lists.{patch-length, patch-in, patch-below, patch-above}
 use Rattle.ports.specs.Bytes
@@ -32,6 +32,7 @@ use Rattle.model.proofs.Contracts.{taken-after, taken-count}
 pub record Taken (s : List ℕ) (b a k room : ℕ) : Type 0 where
   pub long : length s ≡ stateSize
   pub page : recordOf s b pageAt < 4
+  pub some : 1 ≤ k
   pub inside : a + k ≤ 256
   pub fits : k ≤ room
 
@@ -43,9 +44,13 @@ read-taken s n a k out b e is =
     record {
       long = taken-size s (read n a k out) e;
       page = rw is (sound-page (memoryOf s) (recordOf s (base (caller n))) whole);
+      some = at-least (search (and-left, and-right, not-true, or-left));
       inside = ltb-false 256 (a + k) (search (and-left, and-right, not-true));
       fits = ltb-false (length out) k (search (and-left, and-right, not-true));
     }
+  where
+    at-least : eqb k 0 ≡ false → 1 ≤ k
+    at-least f = let d = eqb-false k 0 f in omega arith
 
 -- ---- one record replaced
 

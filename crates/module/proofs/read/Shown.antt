@@ -1,9 +1,10 @@
 -- Laws of what a read shows: each run that it puts over the others, and that together they are what the port sees.
 -- Assumes nothing.
 use mathlib.Core.Path.{_≡_, refl, _∙_}
+use mathlib.Core.Logic.{_≢_}
 use mathlib.Core.Bool.{_&&_, and-false}
 use mathlib.Core.List.{List}
-use Prim.Native.Nat.{ℕ, _+_, _-_, _≤_, _<_}
+use Prim.Native.Nat.{ℕ, _+_, _-_, _≤_, _<_, max, min}
 use native.Mathlib.Omega.{arith}
 use lib.Dec.{ltb, eqb}
 use lib.ListN.{length, set}
@@ -17,67 +18,74 @@ use Rattle.model.specs.Map.{pageSize, paged, memorySize, statusAt, flags, lowMa
 use Rattle.model.specs.Reading.{statusByte, look, seen}
 use Rattle.model.specs.Bytes.{memoryOf, recordOf}
 use Rattle.address.specs.Meaning.{storedAt}
-use Rattle.module.specs.Own.{ownSeen}
-
--- what address i reads where the bytes of s from p on are copied for the addresses r, and where else it would read v
-abbrev copied : List ℕ → ℕ → Run → ℕ → ℕ → ℕ
-copied s p r i v = if within r i then at s (p + (i - r .first)) else v
+use Rattle.module.specs.Own.{copied, ownSeen}
 
 -- ---- one after the other: the n addresses from a on, at the front of out
 
 module _ (out : List ℕ) (a n : ℕ) (room : n ≤ length out) where
-  -- byte 2
-  pub status-shown : (v : ℕ) → a ≤ statusAt → statusAt < a + n → set out (statusAt - a) v ≡ patch 0 n (λ j. if eqb (a + j) statusAt then v else at out j) out
-  status-shown v l u = front-set n out room (statusAt - a) v (omega arith) ∙ patch-same 0 n _ _ out (λ j h. case (eqb (a + j) statusAt)
-      (λ t. let e = eqb-true (a + j) statusAt t in rw (t, eq-eqb j (statusAt - a) (omega arith)))
-      (λ t. let d = eqb-false (a + j) statusAt t in rw (t, ne-eqb j (statusAt - a) (λ z. d (omega arith)))))
+  -- byte 2, of which the run has one address or none
+  pub status-shown : (v skip many : ℕ) → skip ≡ max a statusAt - a → many ≡ min (a + n) (statusAt + 1) - max a statusAt → many ≢ 0
+      → set out skip v ≡ patch 0 n (λ j. if eqb (a + j) statusAt then v else at out j) out
+  status-shown v skip many e k some =
+      let l : statusAt - a < n = inside k some in
+      let z : skip ≡ statusAt - a = e ∙ there k some in
+      rw z (front-set n out room (statusAt - a) v l ∙ patch-same 0 n _ _ out (λ j h. case (eqb (a + j) statusAt)
+      (λ t. let q = eqb-true (a + j) statusAt t in rw (t, eq-eqb j (statusAt - a) (omega arith)))
+      (λ t. let d = eqb-false (a + j) statusAt t in rw (t, ne-eqb j (statusAt - a) (λ y. d (below k some y))))))
+    where
+      inside : many ≡ min (a + n) (statusAt + 1) - max a statusAt → many ≢ 0 → statusAt - a < n
+      inside k some = omega arith
 
-  -- it isn't among them
-  pub status-kept : (v : ℕ) → (a ≤ statusAt → a + n ≤ statusAt) → out ≡ patch 0 n (λ j. if eqb (a + j) statusAt then v else at out j) out
-  status-kept v h = front-self n out room ∙ patch-same 0 n _ _ out (λ j l. rw (ne-eqb (a + j) statusAt (λ z. let k = h (omega arith) in omega arith)))
+      there : many ≡ min (a + n) (statusAt + 1) - max a statusAt → many ≢ 0 → max a statusAt - a ≡ statusAt - a
+      there k some = omega arith
+
+      below : {j : ℕ} → many ≡ min (a + n) (statusAt + 1) - max a statusAt → many ≢ 0 → j ≡ statusAt - a → a + j ≡ statusAt
+      below k some y = omega arith
+
+  pub status-kept : (v many : ℕ) → many ≡ min (a + n) (statusAt + 1) - max a statusAt → many ≡ 0 → out ≡ patch 0 n (λ j. if eqb (a + j) statusAt then v else at out j) out
+  status-kept v many k none = front-self n out room ∙ patch-same 0 n _ _ out (λ j l. rw (ne-eqb (a + j) statusAt (λ z. omega arith)))
 
   module _ (s : List ℕ) where
     -- lower memory, and then the page
-    pub memory-shown : (page low high : ℕ) → a + n ≤ 256 → low ≡ storedAt page 0 → high ≡ storedAt page 128 → {o t : List ℕ}
-        → o ≡ patch 0 n (λ j. copied s low (0 to 127) (a + j) (at out (0 + j))) out
-        → t ≡ patch 0 n (λ j. copied s high (128 to 255) (a + j) (at o (0 + j))) o
+    pub memory-shown : (page : ℕ) → a + n ≤ 256 → {o t : List ℕ}
+        → o ≡ patch 0 n (λ j. copied s 0 0 pageSize (a + j) (at out j)) out
+        → t ≡ patch 0 n (λ j. copied s (paged page pageSize) pageSize pageSize (a + j) (at o j)) o
         → t ≡ patch 0 n (λ j. at s (storedAt page (a + j))) out
-    memory-shown page low high inside l h e d =
-        front-over n out room e d (λ j k x. let z : 0 + j ≡ j = omega arith in case (ltb (a + j) pageSize)
-        (λ u. let v = ltb-true (a + j) pageSize u in let q : low + (a + j - 0) ≡ a + j = omega arith in
-        rw (z, x, covers-below 128 128 (a + j) v, covers-in 0 128 (a + j) (omega arith) (omega arith), u, q))
-        (λ u. let v = ltb-false (a + j) pageSize u in let q : high + (a + j - 128) ≡ paged page (a + j) = omega arith in
+    memory-shown page inside e d =
+        front-over n out room e d (λ j k x. case (ltb (a + j) pageSize)
+        (λ u. let v = ltb-true (a + j) pageSize u in let q : 0 + (a + j - 0) ≡ a + j = omega arith in
+        rw (x, covers-below 128 128 (a + j) v, covers-in 0 128 (a + j) (omega arith) (omega arith), u, q))
+        (λ u. let v = ltb-false (a + j) pageSize u in let q : paged page 128 + (a + j - 128) ≡ paged page (a + j) = omega arith in
         rw (covers-in 128 128 (a + j) v (omega arith), u, q)))
 
     module _ (b : ℕ) where
       -- bytes of the record at b, of which address i has byte d
       own-byte : (r : Run) (p d i : ℕ) {x y : ℕ} → (r .first ≤ i → i < r .first + r .many → (p + (i - r .first) ≡ b + d) × (d < recordSize)) → x ≡ y
-          → copied s p r i x ≡ (if within r i then recordOf s b d else y)
+          → copied s p (r .first) (r .many) i x ≡ (if within r i then recordOf s b d else y)
       own-byte r p d i f e = case (within r i)
           (λ t. let c = covers-true (r .first) (r .many) i t in let k = f (c .0) (c .1) in rw (t, k .0, lt-ltb d recordSize (k .1)))
           (λ t. rw t e)
 
       -- the masks of page 03h
-      pub masks-shown : (p : ℕ) → p ≡ b + highMaskOf (highMasks .first) → {t : List ℕ}
-          → t ≡ patch 0 n (λ j. copied s p highMasks (a + j) (at out (0 + j))) out
+      pub masks-shown : {t : List ℕ}
+          → t ≡ patch 0 n (λ j. copied s (b + highMaskOf (highMasks .first)) (highMasks .first) (highMasks .many) (a + j) (at out j)) out
           → t ≡ patch 0 n (λ j. if within highMasks (a + j) then recordOf s b (highMaskOf (a + j)) else at out j) out
-      masks-shown p e d = d ∙ patch-same 0 n _ _ out (λ j l. let z : 0 + j ≡ j = omega arith in
-          rw z (own-byte highMasks p (highMaskOf (a + j)) (a + j) (λ u v. (omega arith, omega arith)) refl))
+      masks-shown d = d ∙ patch-same 0 n _ _ out
+          (λ j l. own-byte highMasks (b + highMaskOf (highMasks .first)) (highMaskOf (a + j)) (a + j) (λ u v. (omega arith, omega arith)) refl)
 
       -- what is the port's own in lower memory
-      pub own-shown : (first masks page : ℕ) → first ≡ b → masks ≡ b + lowMaskOf (lowMasks .first) → page ≡ b + pageAt → {o₁ o₂ o₃ t : List ℕ}
-          → o₁ ≡ patch 0 n (λ j. if within (119 to 126) (a + j) then 0 else at out (0 + j)) out
-          → o₂ ≡ patch 0 n (λ j. copied s page (127 to 127) (a + j) (at o₁ (0 + j))) o₁
-          → o₃ ≡ patch 0 n (λ j. copied s masks lowMasks (a + j) (at o₂ (0 + j))) o₂
-          → t ≡ patch 0 n (λ j. copied s first flags (a + j) (at o₃ (0 + j))) o₃
+      pub own-shown : {o₁ o₂ o₃ t : List ℕ}
+          → o₁ ≡ patch 0 n (λ j. if within (119 to 126) (a + j) then 0 else at out j) out
+          → o₂ ≡ patch 0 n (λ j. copied s (b + pageAt) 127 1 (a + j) (at o₁ j)) o₁
+          → o₃ ≡ patch 0 n (λ j. copied s (b + lowMaskOf (lowMasks .first)) (lowMasks .first) (lowMasks .many) (a + j) (at o₂ j)) o₂
+          → t ≡ patch 0 n (λ j. copied s b (flags .first) (flags .many) (a + j) (at o₃ j)) o₃
           → t ≡ patch 0 n (λ j. ownSeen (recordOf s b) (a + j) (at out j)) out
-      own-shown first masks page p q r e₁ e₂ e₃ e₄ = front-four n out room e₁ e₂ e₃ e₄ (λ j l x₁ x₂ x₃.
+      own-shown e₁ e₂ e₃ e₄ = front-four n out room e₁ e₂ e₃ e₄ (λ j l x₁ x₂ x₃.
           let i : ℕ = a + j in
-          let z : 0 + j ≡ j = omega arith in
-          rw (z, x₃, z, x₂, z, x₁, z, ← covers-one 127 i)
-          (own-byte flags first (flagOf i) i (λ u v. (omega arith, omega arith))
-          (own-byte lowMasks masks (lowMaskOf i) i (λ u v. (omega arith, omega arith))
-          (own-byte (127 to 127) page pageAt i (λ u v. (omega arith, omega arith)) refl))))
+          rw (x₃, x₂, x₁, ← covers-one 127 i)
+          (own-byte flags b (flagOf i) i (λ u v. (omega arith, omega arith))
+          (own-byte lowMasks (b + lowMaskOf (lowMasks .first)) (lowMaskOf i) i (λ u v. (omega arith, omega arith))
+          (own-byte (127 to 127) (b + pageAt) pageAt i (λ u v. (omega arith, omega arith)) refl))))
 
 -- ---- all together
 

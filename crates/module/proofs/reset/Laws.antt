@@ -39,7 +39,7 @@ abbrev pub broughtRuns : List Run
 broughtRuns = 512 to 639 ∷ 0 to 383 ∷ []
 
 abbrev pub emptiedRuns : List Run
-emptiedRuns = 626 to 631 ∷ 119 to 127 ∷ 100 to 104 ∷ 22 to 57 ∷ 3 to 14 ∷ []
+emptiedRuns = 626 to 631 ∷ 127 to 127 ∷ 119 to 126 ∷ 100 to 104 ∷ 22 to 57 ∷ 3 to 14 ∷ []
 
 module _ (s : List ℕ) (long : length s ≡ stateSize) where
   pub empty-all : overlaid (λ i. 0) emptiedRuns s ≡ patch 0 memorySize (λ i. if emptied i then 0 else at s i) s

@@ -11,9 +11,10 @@ use lib.ListN.{length, set, take, length-set}
 use lib.Seq.{take-all}
 use types.Run.{OneOf, miss}
 use denote.Enum.Declared.{tagOf}
-use borrow.Author.Tests.{eqb-true, eqb-false, ltb-false}
+use borrow.Author.Tests.{eqb-true, eqb-false, ltb-false, not-true}
 use Rattle.laws.specs.Lists.{at}
-use Rattle.laws.proofs.Tests.{case, or-left, or-right, sub-ltb}
+use Rattle.laws.proofs.Tests.{case, and-left, and-right, or-left, or-right, sub-ltb}
+use Rattle.laws.proofs.Rows.{first-none}
 use Rattle.laws.proofs.Lists.{at-set}
 use Rattle.address.specs.Meaning.{seatOf}
 use Rattle.address.specs.declared.Slot.{Slot}
@@ -21,15 +22,16 @@ use Rattle.address.specs.declared.Slot.the-variants.{Flag, Mine, Common, Status
 use Rattle.address.proofs.Slot.{the-type}
 use Rattle.ports.specs.Bytes
 use Rattle.ports.specs.Effects
+use Rattle.ports.specs.Modules
 use Rattle.model.specs.Ports.{Port, caller, State, write}
 use Rattle.model.specs.Map.{stateSize, base, pageAt, Seat, seat}
 use Rattle.model.specs.Refusals.{miscounted, across, isMine, allMine}
 use Rattle.model.specs.Writing.{classOf, written, store, puts}
 use Rattle.model.specs.Interrupt.{count}
-use Rattle.model.specs.Bytes.{memoryOf, recordOf, stateOf, bytesOf, refusalOf}
+use Rattle.model.specs.Bytes.{memoryOf, recordOf, stateOf, bytesOf, rowsOf, refusalOf}
 use Rattle.model.specs.Contracts.{WriteDone}
 use Rattle.model.specs.Demands.{seatPlace}
-use Rattle.model.proofs.Names.{beyond, done, place}
+use Rattle.model.proofs.Names.{rows, beyond, done, place}
 use Rattle.model.proofs.Fits.{fits-of, fits-puts}
 use Rattle.model.proofs.Bytes.{state-bytes, place-state, bytes-by-place, bytes-state}
 use Rattle.model.proofs.Writes.{Within, store-hit, store-miss, accepted-range}
@@ -48,6 +50,10 @@ module _ (a n : ℕ) (counted : miscounted 4 n ≡ false) where
 
   pub run-fits : (ltb (256 - n) a || (ltb a 128 && ltb (128 - n) a)) ≡ false → a + n ≤ 256
   run-fits e = ltb-false 256 (a + n) (or-left (beyond a n) (across a n) (past-end ∙ e))
+
+  -- its first address is one
+  pub first-fits : (ltb (256 - n) a || (ltb a 128 && ltb (128 - n) a)) ≡ false → a < 256
+  first-fits e = let l = run-fits e in let d = eqb-false n 0 (or-left (eqb n 0) (ltb 4 n) counted) in omega arith
 
 -- one address more, from the last to the first
 pub mine-next : (g a n k : ℕ) → 0 < k → k ≤ n → (isMine (seat g (a + (k - 1))) && allMine g (a + k) (n - k)) ≡ allMine g (a + (k - 1)) (n - (k - 1))
@@ -128,6 +134,16 @@ module _ (s : List ℕ) (n a : ℕ) (vs : List ℕ) (taken : refusalOf s (write 
   write-taken =
       let r = accepted-range (stateOf s) n a vs (taken-state s (write n a vs) taken) in
       (taken-size s (write n a vs) taken, r .1, r .0)
+
+  -- and so does the first
+  pub write-first : a < 256
+  unfolding Bytes.refusalOf Bytes.rowsOf Modules.rows
+  write-first =
+      let r = first-none (rowsOf s (write n a vs)) refl .0 taken in
+      let some : eqb (length vs) 0 ≡ false = search (and-left, and-right, not-true, or-left) in
+      let d = eqb-false (length vs) 0 some in
+      let h = write-taken .2 in
+      omega arith
 
   pub write-done : (t : List ℕ) (c : ℕ) → t ≡ bytesOf (puts (stateOf s) (caller n) (recordOf s (base (caller n)) pageAt) a vs)
       → c ≡ count (recordOf t (base (caller n))) → WriteDone s n a vs 0 c t

@@ -4,45 +4,36 @@ use Prim.Native.Nat.{_≤_, _*_, _-_, _+_}
 use mathlib.Core.Path.{_≡_, refl}
 use mathlib.Core.List.{map}
 use native.Mathlib.Omega.{arith}
-use borrow.Author.Needs.{needs}
 use Rattle.laws.specs.Lists.{sum}
 use Rattle.model.specs.Interrupt.{countPair}
 use Rattle.model.specs.Bytes.{recordOf}
 use Rattle.record.specs.Beside.{beside}
 use Rattle.record.proofs.Laws.{count-more}
+use borrow.Author.Needs.{needs}
 use Rattle.record.proofs.count_beside.Statement.{statement}
 use Rattle.record.proofs.count_beside.Tie as tie
 
 abbrev Inv-loop : tie.InvT-loop
-Inv-loop state n f m b c₀ j₀ c j = (j ≤ n) × (c ≡ sum (map (countPair (recordOf state b)) (beside j f m))) × (c ≤ 8 * j)
+Inv-loop state base n f m c₀ j₀ c j = (j ≤ n) × (c ≡ sum (map (countPair (recordOf state (base .0))) (beside j f m))) × (c ≤ 8 * j)
 
 abbrev μ-loop : tie.MeasureT-loop
-μ-loop state n f m b c₀ j₀ c j = n - j
-
-index-requires : tie.Need-index-requires Inv-loop μ-loop
-index-requires c κs = search needs
+μ-loop state base n f m c₀ j₀ c j = n - j
 
 loop-holds : tie.Need-loop-holds Inv-loop μ-loop
 unfolding sum
 loop-holds c = (search needs, refl, search needs)
 
-add-let-by : tie.Need-add-let-by Inv-loop μ-loop
-add-let-by c = search needs
+add-own : tie.Need-add-own Inv-loop μ-loop
+add-own c = search needs
 
-add-let-by-2 : tie.Need-add-let-by-2 Inv-loop μ-loop
-add-let-by-2 c = search needs
+own-requires : tie.Need-own-requires Inv-loop μ-loop
+own-requires c κs = search needs
 
-shared-slice-read-let-by : tie.Need-shared-slice-read-let-by Inv-loop μ-loop
-shared-slice-read-let-by c = search needs
+add-own-2 : tie.Need-add-own-2 Inv-loop μ-loop
+add-own-2 c = search needs
 
-add-let-by-3 : tie.Need-add-let-by-3 Inv-loop μ-loop
-add-let-by-3 c = search needs
-
-add-let-by-4 : tie.Need-add-let-by-4 Inv-loop μ-loop
-add-let-by-4 c = search needs
-
-shared-slice-read-let-by-2 : tie.Need-shared-slice-read-let-by-2 Inv-loop μ-loop
-shared-slice-read-let-by-2 c = search needs
+own-requires-2 : tie.Need-own-requires-2 Inv-loop μ-loop
+own-requires-2 c κs = search needs
 
 let-by-requires : tie.Need-let-by-requires Inv-loop μ-loop
 let-by-requires c κs = search needs
@@ -58,18 +49,18 @@ loop-less c = search needs
 
 loop-again : tie.Need-loop-again Inv-loop μ-loop
 loop-again c =
-    let x = c .before .before .before .before .before .before .before .args in
-    let j = c .before .before .before .before .loop .j in
-    let b = c .before .before .before .before .before .index .result in
-    let byte = c .before .shared-slice-known3 .given (b + (x .f + j)) in
-    let more = count-more (x .state .now) b j (x .f) (x .m) (omega arith) (omega arith) (omega arith) in
+    let l = c .before .before .before .before in
+    let x = l .before .before .args in
+    let o = recordOf (x .state .now) (x .base .0) in
+    let byte = c .before .before .own .ensures in
+    let more = rw (← byte, ← c .before .own2 .ensures) at (count-more o (l .loop .j) (x .f) (x .m) (omega arith)) in
     (search needs, omega arith, omega arith)
 
 returns : tie.Need-returns Inv-loop μ-loop
 returns c =
-    let x = c .before .before .before .before .args in
+    let x = c .before .before .before .args in
     let k : c .before .loop .j ≡ x .n = omega arith in
-    (rw (k, c .before .before .index .ensures) at (c .before .loop .inv .1), omega arith)
+    (rw k at (c .before .loop .inv .1), omega arith)
 
 pub count-beside-spec : {M : Type 1} → statement M
 count-beside-spec =
@@ -77,14 +68,11 @@ count-beside-spec =
     (tie.spec
     Inv-loop
     μ-loop
-    index-requires
     loop-holds
-    add-let-by
-    add-let-by-2
-    shared-slice-read-let-by
-    add-let-by-3
-    add-let-by-4
-    shared-slice-read-let-by-2
+    add-own
+    own-requires
+    add-own-2
+    own-requires-2
     let-by-requires
     add-c
     add-j

@@ -1,74 +1,55 @@
 -- `record::is_sound` meets its contract.
 -- Assumes nothing.
-use borrow.Author.Needs.{needs}
 use Rattle.model.specs.Map.{sound, tidy}
+use borrow.Author.Needs.{needs}
 use Rattle.record.proofs.is_sound.Statement.{statement}
 use Rattle.record.proofs.is_sound.Tie as tie
 
-index-requires : tie.Need-index-requires
-index-requires c κs = search needs
-
-add-page : tie.Need-add-page
-add-page c = search needs
-
-shared-slice-read-page : tie.Need-shared-slice-read-page
-shared-slice-read-page c = search needs
+page-of-requires : tie.Need-page-of-requires
+page-of-requires c κs = search needs
 
 is-supported-requires : tie.Need-is-supported-requires
 is-supported-requires c κs = search needs
 
-add-result : tie.Need-add-result
-add-result c = search needs
+own-requires : tie.Need-own-requires
+own-requires c κs = search needs
 
-shared-slice-read-result : tie.Need-shared-slice-read-result
-shared-slice-read-result c = search needs
+own-requires-2 : tie.Need-own-requires-2
+own-requires-2 c κs = search needs
 
-add-result-2 : tie.Need-add-result-2
-add-result-2 c = search needs
+own-requires-3 : tie.Need-own-requires-3
+own-requires-3 c κs = search needs
 
-shared-slice-read-result-2 : tie.Need-shared-slice-read-result-2
-shared-slice-read-result-2 c = search needs
+own-requires-4 : tie.Need-own-requires-4
+own-requires-4 c κs = search needs
 
-add-result-3 : tie.Need-add-result-3
-add-result-3 c = search needs
-
-shared-slice-read-result-3 : tie.Need-shared-slice-read-result-3
-shared-slice-read-result-3 c = search needs
-
-add-result-4 : tie.Need-add-result-4
-add-result-4 c = search needs
-
-shared-slice-read-result-4 : tie.Need-shared-slice-read-result-4
-shared-slice-read-result-4 c = search needs
-
-add-result-5 : tie.Need-add-result-5
-add-result-5 c = search needs
-
-shared-slice-read-result-5 : tie.Need-shared-slice-read-result-5
-shared-slice-read-result-5 c = search needs
+own-requires-5 : tie.Need-own-requires-5
+own-requires-5 c κs = search needs
 
 returns : tie.Need-returns
 unfolding sound tidy
 returns c =
-    let x = c .before .before .before .before .before in
-    rw (x .is-supported .ensures, x .before .before .index .ensures)
+    let b = c .before .before in
+    let s = b .before .before .before in
+    rw (
+      s .is-supported .ensures,
+      s .before .page-of .ensures,
+      b .before .before .own .ensures,
+      b .before .own2 .ensures,
+      b .own3 .ensures,
+      c .before .own4 .ensures,
+      c .own5 .ensures,
+    )
 
 pub is-sound-spec : {M : Type 1} → statement M
 is-sound-spec =
     tie.close
     (tie.spec
-    index-requires
-    add-page
-    shared-slice-read-page
+    page-of-requires
     is-supported-requires
-    add-result
-    shared-slice-read-result
-    add-result-2
-    shared-slice-read-result-2
-    add-result-3
-    shared-slice-read-result-3
-    add-result-4
-    shared-slice-read-result-4
-    add-result-5
-    shared-slice-read-result-5
+    own-requires
+    own-requires-2
+    own-requires-3
+    own-requires-4
+    own-requires-5
     returns)

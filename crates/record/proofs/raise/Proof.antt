@@ -5,37 +5,35 @@ use mathlib.Core.Path.{_≡_, refl}
 use native.Mathlib.Omega.{arith}
 use lib.ListN.{length, length-set}
 use lib.Bits.{bitOr}
-use borrow.Author.Needs.{needs}
 use Rattle.laws.specs.Lists.{at, patch}
 use Rattle.laws.proofs.Lists.{patch-none}
 use Rattle.model.specs.Map.{flags}
 use Rattle.record.proofs.Laws.{raise-more}
+use borrow.Author.Needs.{needs}
 use Rattle.record.proofs.raise.Statement.{statement}
 use Rattle.record.proofs.raise.Tie as tie
 
 abbrev Inv-loop : tie.InvT-loop
-Inv-loop state₀ cs b k₀ state k = (k ≤ flags .many) × (length state ≡ length state₀) × (state ≡ patch b k (λ j. bitOr (at state₀ (b + j)) (at cs j)) state₀)
+Inv-loop state₀ base cs k₀ state k =
+    (k ≤ flags .many) × (length state ≡ length state₀) × (state ≡ patch (base .0) k (λ j. bitOr (at state₀ (base .0 + j)) (at cs j)) state₀)
 
 abbrev μ-loop : tie.MeasureT-loop
-μ-loop state₀ cs b k₀ state k = flags .many - k
-
-index-requires : tie.Need-index-requires Inv-loop μ-loop
-index-requires c κs = search needs
+μ-loop state₀ base cs k₀ state k = flags .many - k
 
 loop-holds : tie.Need-loop-holds Inv-loop μ-loop
 loop-holds c = (search needs, refl, patch-none _ _ _)
 
-add-state : tie.Need-add-state Inv-loop μ-loop
-add-state c = search needs
+in-record-requires : tie.Need-in-record-requires Inv-loop μ-loop
+in-record-requires c κs = search needs
+
+index-requires : tie.Need-index-requires Inv-loop μ-loop
+index-requires c κs = search needs
 
 slice-read-state : tie.Need-slice-read-state Inv-loop μ-loop
 slice-read-state c = search needs
 
 array-read-state : tie.Need-array-read-state Inv-loop μ-loop
 array-read-state c = search needs
-
-add-state-2 : tie.Need-add-state-2 Inv-loop μ-loop
-add-state-2 c = search needs
 
 slice-write-state : tie.Need-slice-write-state Inv-loop μ-loop
 slice-write-state c = search needs
@@ -48,10 +46,11 @@ loop-less c = search needs
 
 loop-again : tie.Need-loop-again Inv-loop μ-loop
 loop-again c =
-    let x = c .before .before .before .before .before .args in
-    let b = c .before .before .before .index .result in
-    let more = raise-more (x .state .now) (x .t3) b (c .before .before .loop .k) (omega arith) in
-    (search needs, simp length-set (search needs), rw (c .before .before .loop .inv .2) more)
+    let i = c .before in
+    let l = i .before .before .before in
+    let x = l .before .before .args in
+    let more = raise-more (x .state .now) (x .t3) (x .base .0) (l .loop .k) (omega arith) in
+    (search needs, simp length-set (search needs), rw (l .loop .inv .2, i .index .ensures, i .before .in-record .ensures) more)
 
 same-length : tie.Need-same-length Inv-loop μ-loop
 same-length c = search needs
@@ -59,7 +58,7 @@ same-length c = search needs
 returns : tie.Need-returns Inv-loop μ-loop
 returns c =
     let k : c .before .loop .k ≡ flags .many = omega arith in
-    rw (k, c .before .before .index .ensures) at (c .before .loop .inv .2)
+    rw k at (c .before .loop .inv .2)
 
 pub raise-spec : {M : Type 1} → statement M
 raise-spec =
@@ -67,12 +66,11 @@ raise-spec =
     (tie.spec
     Inv-loop
     μ-loop
-    index-requires
     loop-holds
-    add-state
+    in-record-requires
+    index-requires
     slice-read-state
     array-read-state
-    add-state-2
     slice-write-state
     add-k
     loop-less

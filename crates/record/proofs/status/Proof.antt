@@ -11,8 +11,8 @@ use Rattle.model.specs.Bytes.{recordOf}
 use Rattle.record.proofs.status.Statement.{statement}
 use Rattle.record.proofs.status.Tie as tie
 
-shared-slice-read-stored : tie.Need-shared-slice-read-stored
-shared-slice-read-stored c = search needs
+stored-requires : tie.Need-stored-requires
+stored-requires c κs = search needs
 
 count-of-requires : tie.Need-count-of-requires
 count-of-requires c κs = search needs
@@ -31,7 +31,7 @@ unfolding Interrupt.standsOf
 returns c =
     let x = c .before .before .before .before .args in
     let e : count (recordOf (x .state .now) (x .base .0)) ≡ 0 = cc in
-    rw (eq-eqb _ _ e) (omega arith)
+    rw (eq-eqb _ _ e, ← c .before .before .stored .ensures) (omega arith)
 
 mul-result-2 : tie.Need-mul-result-2
 mul-result-2 c = search needs
@@ -44,13 +44,13 @@ unfolding Interrupt.standsOf
 returns-2 c =
     let x = c .before .before .before .before .args in
     let e : count (recordOf (x .state .now) (x .base .0)) ≢ 0 = λ h. c .if1 .left (c .before .count-of .ensures ∙ h) in
-    rw (ne-eqb _ _ e) (omega arith)
+    rw (ne-eqb _ _ e, ← c .before .before .stored .ensures) (omega arith)
 
 pub status-spec : {M : Type 1} → statement M
 status-spec =
     tie.close
     (tie.spec
-    shared-slice-read-stored
+    stored-requires
     count-of-requires
     mul-result
     add-result

@@ -1,5 +1,6 @@
 -- `module::read::accept` meets its contract.
 -- Assumes nothing.
+use mathlib.Core.Path.{refl}
 use lib.ListN.{length}
 use denote.Ref.{now}
 use borrow.Author.Needs.{needs}
@@ -8,8 +9,14 @@ use Rattle.module.proofs.read.accept.Statement.{statement}
 use Rattle.module.proofs.read.accept.Tie as tie
 
 -- what the needs rely on
-taken : (c : tie.After-record-of) → let x = c .before .before .before .args in Taken (now (x .state)) (c .record-of .result .0) (x .address) (x .count) (length (now (x .out)))
-taken c = read-taken _ _ _ _ _ _ (c .before .before .before .pre) (c .record-of .ensures .0)
+taken : (c : tie.After-record-of) → let x = c .before .before .before .before .args in Taken (now (x .state)) (c .record-of .result .0) (x .address) (x .count) (length (now (x .out)))
+taken c = read-taken _ _ _ _ _ _ (c .before .before .before .before .pre) (c .record-of .ensures .0)
+
+cast-host : tie.Need-cast-host
+cast-host c = let t = read-taken _ _ _ _ _ _ (c .before .before .pre) refl in search needs
+
+host-requires : tie.Need-host-requires
+host-requires c κs = search needs
 
 record-of-requires : tie.Need-record-of-requires
 record-of-requires c κs = search needs
@@ -24,8 +31,7 @@ clear-own-requires : tie.Need-clear-own-requires
 clear-own-requires c κs = let t = taken (c .before .before .before .before .before .before .before .before) in search needs
 
 count-of-requires : tie.Need-count-of-requires
-count-of-requires c κs =
-    let t = taken (c .before .before .before .before .before .before .before .before .before .before .before .before) in search needs
+count-of-requires c κs = let t = taken (c .before .before .before .before .before .before .before .before .before .before .before .before) in search needs
 
 same-length : tie.Need-same-length
 same-length c = search needs
@@ -39,12 +45,15 @@ returns c =
     let o = l .before .before .before .before in
     let k = o .before .before .before .before .before in
     let e = k .record-of .ensures .0 in
-    read-done _ _ _ _ _ (k .before .before .before .pre) _ _ _ _ e (rw e (l .clear-own .ensures)) (c .count-of .ensures) (o .look .ensures)
+    let h = k .before .host .ensures in
+    read-done _ _ _ _ _ (k .before .before .before .before .pre) _ _ _ _ e (rw e (rw h at (l .clear-own .ensures))) (c .count-of .ensures) (rw h at (o .look .ensures))
 
 pub accept-spec : {M : Type 1} → statement M
 accept-spec =
     tie.close
     (tie.spec
+    cast-host
+    host-requires
     record-of-requires
     page-of-requires
     look-requires

@@ -1,6 +1,5 @@
 -- `module::read::clear_own` meets its contract.
 -- Assumes nothing.
-use mathlib.Core.Path.{refl}
 use borrow.Author.Needs.{needs}
 use Rattle.module.proofs.read.clear_own.Statement.{statement}
 use Rattle.module.proofs.read.clear_own.Tie as tie
@@ -15,7 +14,10 @@ same-length : tie.Need-same-length
 same-length c = search needs
 
 returns : tie.Need-returns
-returns c = rw (c .before .before .clear .ensures, c .before .before .before .record-of .ensures .0) refl
+returns c =
+    let d = c .before .before in
+    let e = d .before .record-of .ensures .0 in
+    rw e at (d .clear .ensures)
 
 pub clear-own-spec : {M : Type 1} → statement M
 clear-own-spec = tie.close (tie.spec record-of-requires clear-requires same-length returns)

@@ -27,9 +27,9 @@ returns c =
     let d = k .before .before .before .before in
     let e = d .before .before .before .before in
     let f = e .before .before .before .before in
-    let b = f .before .before .before .before in
-    let x = b .args in
-    look-shown (now (x .state)) (x .base .0) (x .page) (now (x .out)) (x .a) (x .n) (b .pre .1 .0) (b .pre .1 .1) (b .pre .0 .2) (b .pre .0 .3)
+    let s = f .before .before .before .before in
+    let x = s .args in
+    look-shown (now (x .state)) (x .base .0) (x .page) (now (x .out)) (x .run .first .0) (x .run .many) (s .pre .1 .0) (s .pre .1 .1) (s .pre .0 .2) (s .pre .0 .3)
     (f .put-memory .ensures) (e .put-high-masks .ensures) (d .put-status .ensures) (k .put-own .ensures)
 
 pub look-spec : {M : Type 1} → statement M

@@ -1,6 +1,5 @@
 -- `module::read::put_high_masks` meets its contract.
 -- Assumes nothing.
-use mathlib.Core.Path.{_∙_}
 use denote.Ref.{now}
 use borrow.Author.Tests.{ne-eqb}
 use borrow.Author.Needs.{needs}
@@ -9,34 +8,30 @@ use Rattle.module.proofs.read.Shown.{masks-shown}
 use Rattle.module.proofs.read.put_high_masks.Statement.{statement}
 use Rattle.module.proofs.read.put_high_masks.Tie as tie
 
-in-record-requires : tie.Need-in-record-requires
-in-record-requires c κs = search needs
+high-mask-lane-requires : tie.Need-high-mask-lane-requires
+high-mask-lane-requires c κs = search needs
 
-index-requires : tie.Need-index-requires
-index-requires c κs = search needs
-
-copy-overlap-requires : tie.Need-copy-overlap-requires
-copy-overlap-requires c κs = search needs
+put-lane-requires : tie.Need-put-lane-requires
+put-lane-requires c κs = search needs
 
 same-length : tie.Need-same-length
 same-length c = search needs
 
 returns : tie.Need-returns
 returns c =
-    let k = c .before .before in
-    let i = k .before .before in
-    let b = i .before .before .before .before .before in
-    let x = b .args in
-    rw (i .before .before .if1 .taken)
-    (masks-shown (now (x .out)) (x .a) (x .n) (b .pre .3) (now (x .state)) (x .base .0) _ (i .index .ensures ∙ i .before .in-record .ensures) (k .copy-overlap .ensures))
+    let d = c .before .before in
+    let i = d .before .before .before in
+    let s = i .before .before .before in
+    let x = s .args in
+    let l = d .before .high-mask-lane .ensures in
+    rw (i .if1 .taken)
+    (masks-shown (now (x .out)) (x .run .first .0) (x .run .many) (s .pre .3) (now (x .state)) (x .base .0) (rw (l .0, l .1, l .2) at (d .put-lane .ensures)))
 
 returns-2 : tie.Need-returns-2
 returns-2 c =
-    let b = c .before .before .before in
-    let x = b .args in
-    rw (ne-eqb _ _ (c .if1 .left)) (front-self (x .n) (now (x .out)) (b .pre .3))
+    let s = c .before .before .before in
+    rw (ne-eqb _ _ (c .if1 .left)) (front-self (s .args .run .many) (now (s .args .out)) (s .pre .3))
 
 pub put-high-masks-spec : {M : Type 1} → statement M
 put-high-masks-spec =
-    tie.close
-    (tie.spec in-record-requires index-requires copy-overlap-requires same-length returns returns-2)
+    tie.close (tie.spec high-mask-lane-requires put-lane-requires same-length returns returns-2)

@@ -1,67 +1,44 @@
 -- `module::read::put_memory` meets its contract.
 -- Assumes nothing.
-use mathlib.Core.Path.{_≡_, _∙_}
 use denote.Ref.{now}
 use borrow.Author.Needs.{needs}
-use Rattle.address.specs.Meaning.{storedAt}
 use Rattle.module.proofs.read.Shown.{memory-shown}
 use Rattle.module.proofs.read.put_memory.Statement.{statement}
 use Rattle.module.proofs.read.put_memory.Tie as tie
 
-low-is : (c : tie.After-index) → c .index .result ≡ storedAt (c .before .before .before .before .before .args .page) 0
-low-is c = c .index .ensures ∙ rw (c .before .before .host .ensures) at (c .before .stored-at .ensures .0)
+lower-lane-requires : tie.Need-lower-lane-requires
+lower-lane-requires c κs = search needs
 
-high-is : (c : tie.After-index2) → c .index2 .result ≡ storedAt (c .before .before .before .before .before .before .before .before .args .page) 128
-high-is c = c .index2 .ensures ∙ rw (c .before .before .host2 .ensures) at (c .before .stored-at2 .ensures .0)
+put-lane-requires : tie.Need-put-lane-requires
+put-lane-requires c κs = search needs
 
-host-requires : tie.Need-host-requires
-host-requires c κs = search needs
+page-lane-requires : tie.Need-page-lane-requires
+page-lane-requires c κs = search needs
 
-stored-at-requires : tie.Need-stored-at-requires
-stored-at-requires c κs = search needs
-
-index-requires : tie.Need-index-requires
-index-requires c κs = search needs
-
-host-requires-2 : tie.Need-host-requires-2
-host-requires-2 c κs = search needs
-
-stored-at-requires-2 : tie.Need-stored-at-requires-2
-stored-at-requires-2 c κs = search needs
-
-index-requires-2 : tie.Need-index-requires-2
-index-requires-2 c κs = search needs
-
-copy-overlap-requires : tie.Need-copy-overlap-requires
-copy-overlap-requires c κs = let l = low-is (c .before .before .before .before) in search needs
-
-copy-overlap-requires-2 : tie.Need-copy-overlap-requires-2
-copy-overlap-requires-2 c κs = let h = high-is (c .before .before .before .before .before) in search needs
+put-lane-requires-2 : tie.Need-put-lane-requires-2
+put-lane-requires-2 c κs = search needs
 
 same-length : tie.Need-same-length
 same-length c = search needs
 
 returns : tie.Need-returns
 returns c =
-    let k = c .before .before in
-    let d = k .before .before .before .before in
-    let h = d .before .before in
-    let l = h .before .before .before in
-    let b = l .before .before .before .before .before in
-    let x = b .args in
-    memory-shown (now (x .out)) (x .a) (x .n) (b .pre .3) (now (x .state)) (x .page) _ _ (b .pre .2) (low-is l) (high-is h) (d .copy-overlap .ensures) (k .copy-overlap2 .ensures)
+    let d = c .before .before in
+    let e = d .before .before .before .before .before in
+    let s = e .before .before .before .before .before in
+    let x = s .args in
+    let l = e .before .lower-lane .ensures in
+    let p = d .before .page-lane .ensures in
+    memory-shown (now (x .out)) (x .run .first .0) (x .run .many) (s .pre .3) (now (x .state)) (x .page) (s .pre .2)
+    (rw (l .0, l .1, l .2) at (e .put-lane .ensures)) (rw (p .0, p .1, p .2) at (d .put-lane2 .ensures))
 
 pub put-memory-spec : {M : Type 1} → statement M
 put-memory-spec =
     tie.close
     (tie.spec
-    host-requires
-    stored-at-requires
-    index-requires
-    host-requires-2
-    stored-at-requires-2
-    index-requires-2
-    copy-overlap-requires
-    copy-overlap-requires-2
+    lower-lane-requires
+    put-lane-requires
+    page-lane-requires
+    put-lane-requires-2
     same-length
     returns)

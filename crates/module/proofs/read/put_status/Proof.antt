@@ -1,14 +1,16 @@
 -- `module::read::put_status` meets its contract.
 -- Assumes nothing.
-use native.Mathlib.Omega.{arith}
 use denote.Ref.{now}
 use borrow.Author.Needs.{needs}
 use Rattle.module.proofs.read.Shown.{status-shown, status-kept}
 use Rattle.module.proofs.read.put_status.Statement.{statement}
 use Rattle.module.proofs.read.put_status.Tie as tie
 
-add-if2 : tie.Need-add-if2
-add-if2 c = search needs
+hosts-of-requires : tie.Need-hosts-of-requires
+hosts-of-requires c κs = search needs
+
+part-of-requires : tie.Need-part-of-requires
+part-of-requires c κs = search needs
 
 status-requires : tie.Need-status-requires
 status-requires c κs = search needs
@@ -21,23 +23,30 @@ same-length c = search needs
 
 returns : tie.Need-returns
 returns c =
-    let b = c .before .before .before .before .before in
-    let x = b .args in
-    rw (c .status .ensures) (status-shown (now (x .out)) (x .a) (x .n) (b .pre .3) _ (omega arith) (omega arith))
+    let p = c .before .before .before in
+    let s = p .before .before .before .before in
+    let x = s .args in
+    let h = p .before .hosts-of .ensures in
+    let e = rw (h .0, h .1) at (p .part-of .ensures) in
+    rw (c .status .ensures) (status-shown (now (x .out)) (x .run .first .0) (x .run .many) (s .pre .3) _ _ _ (e .0) (e .1) (c .before .if1 .taken))
 
 returns-2 : tie.Need-returns-2
 returns-2 c =
-    let b = c .before .before .before .before in
-    let x = b .args in
-    status-kept (now (x .out)) (x .a) (x .n) (b .pre .3) _ (λ h. omega arith)
-
-returns-3 : tie.Need-returns-3
-returns-3 c =
-    let b = c .before .before .before in
-    let x = b .args in
-    status-kept (now (x .out)) (x .a) (x .n) (b .pre .3) _ (λ h. omega arith)
+    let p = c .before .before in
+    let s = p .before .before .before .before in
+    let x = s .args in
+    let h = p .before .hosts-of .ensures in
+    let e = rw (h .0, h .1) at (p .part-of .ensures) in
+    status-kept (now (x .out)) (x .run .first .0) (x .run .many) (s .pre .3) _ _ (e .1) (c .if1 .left)
 
 pub put-status-spec : {M : Type 1} → statement M
 put-status-spec =
     tie.close
-    (tie.spec add-if2 status-requires slice-write-out same-length returns returns-2 returns-3)
+    (tie.spec
+    hosts-of-requires
+    part-of-requires
+    status-requires
+    slice-write-out
+    same-length
+    returns
+    returns-2)

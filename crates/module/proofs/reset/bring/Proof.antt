@@ -5,20 +5,37 @@ use Rattle.module.proofs.reset.Laws.{bring-all}
 use Rattle.module.proofs.reset.bring.Statement.{statement}
 use Rattle.module.proofs.reset.bring.Tie as tie
 
-copy-requires : tie.Need-copy-requires
-copy-requires c κs = search needs
+memory-before-requires : tie.Need-memory-before-requires
+memory-before-requires c κs = search needs
 
-copy-requires-2 : tie.Need-copy-requires-2
-copy-requires-2 c κs = search needs
+bring-run-requires : tie.Need-bring-run-requires
+bring-run-requires c κs = search needs
+
+memory-behind-requires : tie.Need-memory-behind-requires
+memory-behind-requires c κs = search needs
+
+bring-run-requires-2 : tie.Need-bring-run-requires-2
+bring-run-requires-2 c κs = search needs
 
 same-length : tie.Need-same-length
 same-length c = search needs
 
 returns : tie.Need-returns
 returns c =
-    let f = c .before .before in
-    let b = f .before .before .before .before .before .before .before .before in
-    rw (f .copy2 .ensures, f .before .before .before .before .copy .ensures) (bring-all (b .args .state .now) (b .pre .0) (b .args .image .now))
+    let d = c .before .before in
+    let f = d .before .before .before .before .before in
+    let s = f .before .before .before .before .before in
+    let e = f .before .memory-before .ensures in
+    let g = d .before .memory-behind .ensures in
+    rw (d .bring-run2 .ensures, g .0, g .1, f .bring-run .ensures, e .0, e .1) (bring-all (s .args .state .now) (s .pre .0) (s .args .image .now))
 
 pub bring-spec : {M : Type 1} → statement M
-bring-spec = tie.close (tie.spec copy-requires copy-requires-2 same-length returns)
+bring-spec =
+    tie.close
+    (tie.spec
+    memory-before-requires
+    bring-run-requires
+    memory-behind-requires
+    bring-run-requires-2
+    same-length
+    returns)

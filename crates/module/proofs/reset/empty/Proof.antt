@@ -5,41 +5,47 @@ use Rattle.module.proofs.reset.Laws.{empty-all}
 use Rattle.module.proofs.reset.empty.Statement.{statement}
 use Rattle.module.proofs.reset.empty.Tie as tie
 
-fill-requires : tie.Need-fill-requires
-fill-requires c κs = search needs
+wipe-requires : tie.Need-wipe-requires
+wipe-requires c κs = search needs
 
-fill-requires-2 : tie.Need-fill-requires-2
-fill-requires-2 c κs = search needs
+wipe-requires-2 : tie.Need-wipe-requires-2
+wipe-requires-2 c κs = search needs
 
-fill-requires-3 : tie.Need-fill-requires-3
-fill-requires-3 c κs = search needs
+wipe-requires-3 : tie.Need-wipe-requires-3
+wipe-requires-3 c κs = search needs
 
-fill-requires-4 : tie.Need-fill-requires-4
-fill-requires-4 c κs = search needs
+wipe-requires-4 : tie.Need-wipe-requires-4
+wipe-requires-4 c κs = search needs
 
-fill-requires-5 : tie.Need-fill-requires-5
-fill-requires-5 c κs = search needs
+wipe-requires-5 : tie.Need-wipe-requires-5
+wipe-requires-5 c κs = search needs
+
+wipe-requires-6 : tie.Need-wipe-requires-6
+wipe-requires-6 c κs = search needs
 
 same-length : tie.Need-same-length
 same-length c = search needs
 
 returns : tie.Need-returns
 returns c =
-    let f₅ = c .before .before in
-    let f₄ = f₅ .before .before .before .before in
-    let f₃ = f₄ .before .before .before .before in
-    let f₂ = f₃ .before .before .before .before in
-    let f₁ = f₂ .before .before .before .before in
-    rw (f₅ .fill5 .ensures, f₄ .fill4 .ensures, f₃ .fill3 .ensures, f₂ .fill2 .ensures, f₁ .fill .ensures) (empty-all _ (f₁ .before .before .before .pre))
+    let w₆ = c .before .before in
+    let w₅ = w₆ .before .before .before .before in
+    let w₄ = w₅ .before .before .before .before in
+    let w₃ = w₄ .before .before .before .before in
+    let w₂ = w₃ .before .before .before .before in
+    let w₁ = w₂ .before .before .before .before in
+    rw (w₆ .wipe6 .ensures, w₅ .wipe5 .ensures, w₄ .wipe4 .ensures, w₃ .wipe3 .ensures, w₂ .wipe2 .ensures, w₁ .wipe .ensures)
+    (empty-all _ (w₁ .before .before .before .pre))
 
 pub empty-spec : {M : Type 1} → statement M
 empty-spec =
     tie.close
     (tie.spec
-    fill-requires
-    fill-requires-2
-    fill-requires-3
-    fill-requires-4
-    fill-requires-5
+    wipe-requires
+    wipe-requires-2
+    wipe-requires-3
+    wipe-requires-4
+    wipe-requires-5
+    wipe-requires-6
     same-length
     returns)

@@ -17,6 +17,15 @@ returns-2 : tie.Need-returns-2
 unfolding Bytes.refusalOf Bytes.rowsOf Modules.rows
 returns-2 c = rw (eq-eqb _ _ (c .before .if1 .left), ne-eqb _ _ (c .if2 .taken))
 
+places-of-requires : tie.Need-places-of-requires
+places-of-requires c κs = search needs
+
+index-requires : tie.Need-index-requires
+index-requires c κs = search needs
+
+add-end : tie.Need-add-end
+add-end c = search needs
+
 sub-are-right : tie.Need-sub-are-right
 sub-are-right c = search needs
 
@@ -32,14 +41,18 @@ are-right-requires c κs = search needs
 returns-3 : tie.Need-returns-3
 unfolding Bytes.refusalOf Bytes.rowsOf Modules.rows
 returns-3 c =
-    let e = c .before .before .before in
-    rw (eq-eqb _ _ (e .before .if1 .left), eq-eqb _ _ (e .if2 .left), ← c .before .are-right .ensures, c .if3 .taken)
+    let i = c .before .before .before .before in
+    let e = i .before .before in
+    let p = i .before .places-of .ensures in
+    rw (eq-eqb _ _ (e .before .if1 .left), eq-eqb _ _ (e .if2 .left), ← rw (i .index .ensures, p .0, p .1) at (c .before .are-right .ensures), c .if3 .taken)
 
 returns-4 : tie.Need-returns-4
 unfolding Bytes.refusalOf Bytes.rowsOf Modules.rows
 returns-4 c =
-    let e = c .before .before .before in
-    rw (eq-eqb _ _ (e .before .if1 .left), eq-eqb _ _ (e .if2 .left), ← c .before .are-right .ensures, c .if3 .left)
+    let i = c .before .before .before .before in
+    let e = i .before .before in
+    let p = i .before .places-of .ensures in
+    rw (eq-eqb _ _ (e .before .if1 .left), eq-eqb _ _ (e .if2 .left), ← rw (i .index .ensures, p .0, p .1) at (c .before .are-right .ensures), c .if3 .left)
 
 pub refusal-of-spec : {M : Type 1} → statement M
 refusal-of-spec =
@@ -47,6 +60,9 @@ refusal-of-spec =
     (tie.spec
     returns
     returns-2
+    places-of-requires
+    index-requires
+    add-end
     sub-are-right
     part-are-right-start
     part-are-right-end

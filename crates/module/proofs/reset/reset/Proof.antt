@@ -13,11 +13,8 @@ refusal-of-requires c κs = search needs
 restore-requires : tie.Need-restore-requires
 restore-requires c κs = let i = c .before in reset-sizes _ _ (sym (i .before .refusal-of .ensures) ∙ i .if1 .taken)
 
-sub-fill : tie.Need-sub-fill
-sub-fill c = search needs
-
-fill-requires : tie.Need-fill-requires
-fill-requires c κs =
+forget-requires : tie.Need-forget-requires
+forget-requires c κs =
     let i = c .before .before .before .before .before in
     search (needs, reset-sizes _ _ (sym (i .before .refusal-of .ensures) ∙ i .if1 .taken))
 
@@ -29,7 +26,7 @@ returns c =
     let f = c .before .before in
     let r = f .before .before .before .before in
     let i = r .before .before in
-    rw (i .if1 .taken) (reset-done _ _ (sym (i .before .refusal-of .ensures) ∙ i .if1 .taken) _ _ (r .restore .ensures) (f .fill .ensures))
+    rw (i .if1 .taken) (reset-done _ _ (sym (i .before .refusal-of .ensures) ∙ i .if1 .taken) _ _ (r .restore .ensures) (f .forget .ensures))
 
 same-length-2 : tie.Need-same-length-2
 same-length-2 c = search needs
@@ -43,8 +40,7 @@ reset-spec =
     (tie.spec
     refusal-of-requires
     restore-requires
-    sub-fill
-    fill-requires
+    forget-requires
     same-length
     returns
     same-length-2

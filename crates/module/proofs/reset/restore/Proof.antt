@@ -12,6 +12,12 @@ bring-requires c κs = search needs
 empty-requires : tie.Need-empty-requires
 empty-requires c κs = search needs
 
+place-of-requires : tie.Need-place-of-requires
+place-of-requires c κs = search needs
+
+index-requires : tie.Need-index-requires
+index-requires c κs = search needs
+
 shared-slice-read-state : tie.Need-shared-slice-read-state
 shared-slice-read-state c = search needs
 
@@ -29,10 +35,12 @@ same-length c = simp length-set (search needs)
 
 returns : tie.Need-returns
 returns c =
-    let e = c .before .before .before in
-    let b = e .before .before .before .before in
-    let s = b .before .before .before .before in
-    rw (e .empty .ensures) (restore-all (s .args .state .now) (s .pre .0) (s .args .image .now) _ (b .bring .ensures))
+    let i = c .before in
+    let e = i .before .before .before .before in
+    let g = e .before .before .before .before in
+    let s = g .before .before .before .before in
+    rw (i .index .ensures, i .before .place-of .ensures .0, e .empty .ensures)
+    (restore-all (s .args .state .now) (s .pre .0) (s .args .image .now) _ (g .bring .ensures))
 
 pub restore-spec : {M : Type 1} → statement M
 restore-spec =
@@ -40,6 +48,8 @@ restore-spec =
     (tie.spec
     bring-requires
     empty-requires
+    place-of-requires
+    index-requires
     shared-slice-read-state
     mul-state
     add-state

@@ -10,17 +10,23 @@ use Rattle.module.proofs.sample.store.Tie as tie
 store-tx-requires : tie.Need-store-tx-requires
 store-tx-requires c κs = search needs
 
-copy-requires : tie.Need-copy-requires
-copy-requires c κs = search needs
+store-in-requires : tie.Need-store-in-requires
+store-in-requires c κs = search needs
 
-copy-requires-2 : tie.Need-copy-requires-2
-copy-requires-2 c κs = search needs
+store-in-requires-2 : tie.Need-store-in-requires-2
+store-in-requires-2 c κs = search needs
 
-copy-requires-3 : tie.Need-copy-requires-3
-copy-requires-3 c κs = search needs
+store-in-requires-3 : tie.Need-store-in-requires-3
+store-in-requires-3 c κs = search needs
 
-copy-requires-4 : tie.Need-copy-requires-4
-copy-requires-4 c κs = search needs
+store-in-requires-4 : tie.Need-store-in-requires-4
+store-in-requires-4 c κs = search needs
+
+place-of-requires : tie.Need-place-of-requires
+place-of-requires c κs = search needs
+
+index-requires : tie.Need-index-requires
+index-requires c κs = search needs
 
 slice-read-state : tie.Need-slice-read-state
 slice-read-state c = search needs
@@ -39,25 +45,29 @@ same-length c = simp length-set (search needs)
 
 returns : tie.Need-returns
 returns c =
-    let c₄ = c .before .before .before .before in
+    let i = c .before .before in
+    let c₄ = i .before .before .before .before in
     let c₃ = c₄ .before .before .before .before in
     let c₂ = c₃ .before .before .before .before in
     let c₁ = c₂ .before .before .before .before in
     let c₀ = c₁ .before .before .before .before in
     let b = c₀ .before .before .before .before in
     let s = b .args .state .now in
-    store-all (memoryOf s) (b .args .x .now) s (c₄ .copy4 .last .0)
-    (rw (c₄ .copy4 .ensures, c₃ .copy3 .ensures, c₂ .copy2 .ensures, c₁ .copy .ensures, c₀ .store-tx .ensures)) (b .pre .0)
+    rw (i .index .ensures, i .before .place-of .ensures .0)
+    (store-all (memoryOf s) (b .args .x .now) s (c₄ .store-in4 .last .0)
+    (rw (c₄ .store-in4 .ensures, c₃ .store-in3 .ensures, c₂ .store-in2 .ensures, c₁ .store-in .ensures, c₀ .store-tx .ensures)) (b .pre .0))
 
 pub store-spec : {M : Type 1} → statement M
 store-spec =
     tie.close
     (tie.spec
     store-tx-requires
-    copy-requires
-    copy-requires-2
-    copy-requires-3
-    copy-requires-4
+    store-in-requires
+    store-in-requires-2
+    store-in-requires-3
+    store-in-requires-4
+    place-of-requires
+    index-requires
     slice-read-state
     slice-read-state-2
     sub-state

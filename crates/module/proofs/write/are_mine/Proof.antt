@@ -11,26 +11,20 @@ use Rattle.module.proofs.write.are_mine.Statement.{statement}
 use Rattle.module.proofs.write.are_mine.Tie as tie
 
 abbrev Inv-loop : tie.InvT-loop
-Inv-loop page a n all₀ k₀ all k = (k ≤ n) × (all ≡ allMine page (a + k) (n - k))
+Inv-loop page run all₀ k₀ all k = (k ≤ run .many) × (all ≡ allMine page (run .first .0 + k) (run .many - k))
 
 abbrev μ-loop : tie.MeasureT-loop
-μ-loop page a n all₀ k₀ all k = k
+μ-loop page run all₀ k₀ all k = k
 
 loop-holds : tie.Need-loop-holds Inv-loop μ-loop
 unfolding allMine
-loop-holds c = let e : c .args .n - c .args .n ≡ 0 = omega arith in (search needs, rw e)
+loop-holds c = let e : c .args .run .many - c .args .run .many ≡ 0 = omega arith in (search needs, rw e)
 
 sub-k : tie.Need-sub-k Inv-loop μ-loop
 sub-k c = search needs
 
-add-host : tie.Need-add-host Inv-loop μ-loop
-add-host c = search needs
-
-cast-host : tie.Need-cast-host Inv-loop μ-loop
-cast-host c = search needs
-
-host-requires : tie.Need-host-requires Inv-loop μ-loop
-host-requires c κs = search needs
+nth-requires : tie.Need-nth-requires Inv-loop μ-loop
+nth-requires c κs = search needs
 
 is-mine-requires : tie.Need-is-mine-requires Inv-loop μ-loop
 is-mine-requires c κs = search needs
@@ -42,7 +36,7 @@ loop-again : tie.Need-loop-again Inv-loop μ-loop
 loop-again c =
     let l = c .before .before .before .loop in
     let x = c .before .before .before .before .args in
-    (search needs, rw (c .is-mine .ensures, c .before .host .ensures, l .inv .1) (mine-next (x .page) (x .a) (x .n) (l .k) (omega arith) (omega arith)))
+    (search needs, rw (c .is-mine .ensures, c .before .nth .ensures, l .inv .1) (mine-next (x .page) (x .run .first .0) (x .run .many) (l .k) (omega arith) (omega arith)))
 
 returns : tie.Need-returns Inv-loop μ-loop
 returns c = let e : c .before .loop .k ≡ 0 = omega arith in simp (e, unary-clauses) at (c .before .loop .inv .1)
@@ -55,9 +49,7 @@ are-mine-spec =
     μ-loop
     loop-holds
     sub-k
-    add-host
-    cast-host
-    host-requires
+    nth-requires
     is-mine-requires
     loop-less
     loop-again

@@ -26,8 +26,7 @@ are-mine-requires c κs =
 
 returns-2 : tie.Need-returns-2
 unfolding Bytes.stateOf
-returns-2 c =
-    rw (c .are-mine .ensures, c .before .page-of .ensures, c .before .before .record-of .ensures .0, ne-eqb _ _ (c .before .before .before .if1 .left))
+returns-2 c = rw (c .are-mine .ensures, c .before .page-of .ensures, c .before .before .record-of .ensures .0, ne-eqb _ _ (c .before .before .before .if1 .left))
 
 pub is-foreign-spec : {M : Type 1} → statement M
 is-foreign-spec =
