@@ -3,6 +3,7 @@
 // Proved: each function gives the definition that its contract cites (document 01, "The 688 bytes" and "Writing").
 ghost use mathlib.Core.Path.{_≡_};
 ghost use Prim.Native.Nat.{suc, _<_, _≤_, _+_, _-_, _*_, max, min};
+ghost use lib.Dec.{eqb};
 ghost use lib.ListN.{length};
 ghost use Rattle.laws.specs.Tests.{covers};
 ghost use Rattle.model.specs.Ports.{caller};
@@ -155,7 +156,14 @@ pub fn hosts_of(r: Register) -> HostRun
     }
 }
 
-// Whether an address is one of them.
+// Whether `page` is its page.
+pub fn is_on(r: Register, page: u8) -> bool
+    ensures { λ t. ⌜ t ≡ eqb page (r .0) ⌝ }
+{
+    page == r.0
+}
+
+// Whether an address is one of its addresses.
 fn has(r: Register, a: HostAddress) -> bool
     requires { ⌜ r .1 ≤ r .2 ⌝ }
     ensures { λ t. ⌜ t ≡ covers (r .1) (suc (r .2) - r .1) (a .0) ⌝ }
@@ -274,7 +282,7 @@ pub fn translate(a: HostAddress, page: u8) -> Slot
     if has(registers::STATUS, a) {
         return Slot::Status;
     }
-    if (page == 3) & has(registers::HIGH_MASKS, a) {
+    if is_on(registers::HIGH_MASKS, page) & has(registers::HIGH_MASKS, a) {
         return Slot::Mine(HIGH_MASKS_IN + steps_to(registers::HIGH_MASKS, a));
     }
     Slot::Common(stored_at(a, page))

@@ -9,7 +9,7 @@ use native.Mathlib.Omega.{arith}
 use lib.Dec.{ltb, eqb}
 use lib.ListN.{length, set, length-set}
 use borrow.Author.Tests.{le-ltb, lt-leb, le-leb, ltb-true, ltb-false}
-use Rattle.laws.specs.Tests.{if_then_else_, covers}
+use Rattle.laws.specs.Tests.{if_then_else_}
 use Rattle.laws.specs.Lists.{at, table, patch}
 use Rattle.laws.proofs.Tests.{case, covers-in, covers-above}
 use Rattle.laws.proofs.Lists.{patch-length, patch-at, at-set}

@@ -86,7 +86,7 @@ fn put_high_masks(out: &mut [u8], run: HostRun, state: &[u8], base: Place, page:
     requires { ⌜ (length (now state) ≡ stateSize) × (base .0 + recordSize ≤ stateSize) × (run .first .0 + run .many ≤ 256) × (run .many ≤ length (now out)) ⌝ }
     ensures { λ _. ⌜ now (out .exit) ≡ patch 0 (run .many) (λ j. if eqb page 3 && within highMasks (run .first .0 + j) then recordOf (now (state .entry)) (base .0) (highMaskOf (run .first .0 + j)) else at (now (out .entry)) j) (now (out .entry)) ⌝ }
 {
-    if page == 3 {
+    if address::is_on(registers::HIGH_MASKS, page) {
         put_lane(out, run, state, address::high_mask_lane(base));
     }
 }

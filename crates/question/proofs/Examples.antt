@@ -4,7 +4,6 @@
 use mathlib.Core.Path.{_≡_, refl}
 use mathlib.Core.List.{[], _∷_, _++_}
 use mathlib.Core.Option.{none, some}
-use Prim.Native.Nat.{_-_}
 use Rattle.block.specs.Block.{samplesTo}
 use Rattle.log.specs.Log.{samples}
 use Rattle.question.specs.Search.{firstIn, firstWith, crowded, refused, given, firstTold}

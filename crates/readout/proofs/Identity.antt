@@ -1,4 +1,5 @@
--- Document 01, "Identity", in the steps of the functions: a turn of the trimming, the field number, where a field lies, its view.
+-- Where a field lies is settled by two tests, of the live page and of the factory page: every fact of a place or a view goes by these
+-- two cases. Of the trimming, one turn.
 -- Assumes nothing.
 use mathlib.Core.Path.{_≡_, refl, sym, _∙_}
 use mathlib.Core.Logic.{_≢_}

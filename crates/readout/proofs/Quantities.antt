@@ -1,4 +1,4 @@
--- The quantities by their numbers, which of them a monitor belongs to, and the numbers that the memory holds.
+-- There are five quantities and fourteen monitors, so what is said of each by its number is tried on all of them, and computes.
 -- Assumes nothing.
 use mathlib.Core.Path.{_≡_, refl}
 use mathlib.Core.Logic.{_≢_}

@@ -1,5 +1,5 @@
--- Laws of the crate's own shapes: refusals of a call by a port, one flag byte more is raised, flag bytes cleared, one pair more is
--- counted.
+-- One step of each loop of the crate and the end of each sum: a flag byte more is raised, a pair more is counted, the flags that a run
+-- has are one run of places; and what the refusals of any call leave a caller to rely on.
 -- Assumes nothing.
 use mathlib.Core.Path.{_≡_, refl, sym, ap, _∙_}
 use mathlib.Core.Bool.{true}

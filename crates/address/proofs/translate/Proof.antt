@@ -88,25 +88,28 @@ returns-5 c =
     let b = d .before .before in
     rw (no-flag (b .before .before), no-low-mask b, no-page d, no-blank e, ← covers-one 2 _, ← c .before .has5 .ensures, c .if5 .taken)
 
+is-on-requires : tie.Need-is-on-requires
+is-on-requires c κs = search needs
+
 has-requires-6 : tie.Need-has-requires-6
 has-requires-6 c κs = search needs
 
-masks : (c : tie.Then6) → 242 ≤ c .before .before .before .before .before .before .before .before .before .before .before .before .args .a .0
+masks : (c : tie.Then6) → 242 ≤ c .before .before .before .before .before .before .before .before .before .before .before .before .before .args .a .0
 masks c =
-    let x = c .before .before .before .before .before .before .before .before .before .before .before .before .args in
-    covers-true 242 6 (x .a .0) (sym (c .before .has6 .ensures) ∙ and-right (eqb (x .page) 3) (c .before .has6 .result) (c .if6 .taken)) .0
+    let x = c .before .before .before .before .before .before .before .before .before .before .before .before .before .args in
+    covers-true 242 6 (x .a .0) (sym (c .before .has6 .ensures) ∙ and-right (c .before .before .is-on .result) (c .before .has6 .result) (c .if6 .taken)) .0
 
 steps-to-requires-3 : tie.Need-steps-to-requires-3
 steps-to-requires-3 c κs = masks c
 
-add-t19 : tie.Need-add-t19
-add-t19 c = search needs
+add-t20 : tie.Need-add-t20
+add-t20 c = search needs
 
 returns-6 : tie.Need-returns-6
 unfolding seat
 returns-6 c =
     let h = c .before .before in
-    let e = h .before in
+    let e = h .before .before in
     let d = e .before .before in
     let b = d .before .before in
     let a = b .before .before in
@@ -119,6 +122,7 @@ returns-6 c =
       no-blank d,
       no-status e,
       le-ltb (a .before .before .before .before .args .a .0) 128 (omega (arith, l)),
+      ← h .before .is-on .ensures,
       ← h .has6 .ensures,
       c .before .if6 .taken,
     )
@@ -130,7 +134,7 @@ returns-7 : tie.Need-returns-7
 unfolding seat
 returns-7 c =
     let h = c .before .before in
-    let e = h .before in
+    let e = h .before .before in
     let d = e .before .before in
     let b = d .before .before in
     let a = b .before .before in
@@ -141,6 +145,7 @@ returns-7 c =
       no-page b,
       no-blank d,
       no-status e,
+      ← h .before .is-on .ensures,
       ← h .has6 .ensures,
       c .before .if6 .left,
     )
@@ -163,9 +168,10 @@ translate-spec =
     returns-4
     has-requires-5
     returns-5
+    is-on-requires
     has-requires-6
     steps-to-requires-3
-    add-t19
+    add-t20
     returns-6
     stored-at-requires
     returns-7)

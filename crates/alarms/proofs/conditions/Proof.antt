@@ -1,4 +1,5 @@
--- `alarms::conditions` meets its contract.
+-- `alarms::conditions` meets its contract: the twelve bytes are the definition's, one by one: each callee's promise is put in its place,
+-- and the table computes.
 -- Assumes nothing.
 use Rattle.alarms.proofs.Laws.{twelve}
 use borrow.Author.Needs.{needs}

@@ -1,4 +1,5 @@
--- `codes::check_code` meets its contract.
+-- `codes::check_code` meets its contract: the code so far is the sum modulo 256 of the bytes already gone through; a wrapped sum of a
+-- sum is the sum's.
 -- Assumes nothing.
 use mathlib.Core.Path.{_≡_}
 use Prim.Native.Nat.{_-_, _≤_}

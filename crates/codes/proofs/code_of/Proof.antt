@@ -1,6 +1,5 @@
 -- `codes::code_of` meets its contract.
 -- Assumes nothing.
-use mathlib.Core.Path.{refl}
 use borrow.Author.Needs.{needs}
 use Rattle.codes.proofs.code_of.Statement.{statement}
 use Rattle.codes.proofs.code_of.Tie as tie

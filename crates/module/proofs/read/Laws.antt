@@ -1,4 +1,5 @@
--- Laws of a read: what an accepted one relies on, and that what it leaves is what the model's read leaves.
+-- A read replaces the first bytes of one record and nothing else, so that the bytes it leaves are those of the state with that record
+-- replaced; and what an accepted read relies on.
 -- Assumes nothing.
 use mathlib.Core.Path.{_≡_, refl, sym, _∙_}
 use mathlib.Core.Bool.{true, false}

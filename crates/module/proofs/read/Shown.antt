@@ -1,4 +1,5 @@
--- Laws of what a read shows: each run that it puts over the others, and that together they are what the port sees.
+-- What a read shows is put together in layers, each a run over the ones before; address by address the last layer that has it decides,
+-- and that is the order of the tests by which the model says where the address leads.
 -- Assumes nothing.
 use mathlib.Core.Path.{_≡_, refl, _∙_}
 use mathlib.Core.Logic.{_≢_}

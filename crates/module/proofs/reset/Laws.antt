@@ -1,4 +1,5 @@
--- What the functions of a reset leave, one after the other, is the model's reset.
+-- What a reset leaves, place by place: below 640 the runs that are brought, emptied and set, laid over each other, are the model's fresh
+-- memory; above it both records are 0, so that their counts are too.
 -- Assumes nothing.
 use mathlib.Core.Path.{_≡_, refl, sym, ap, _∙_, fun-ext}
 use mathlib.Core.Bool.{not}

@@ -1,4 +1,5 @@
--- What the functions of a sample leave, one after the other, is the model's sample.
+-- What a sample leaves, place by place: below 640 the runs of its quantities laid over each other are the model's stored memory, above
+-- it the flag bytes of both records are raised; so the bytes are the model's.
 -- Assumes nothing.
 use mathlib.Core.Path.{_≡_, refl, sym, ap, _∙_}
 use mathlib.Core.Bool.{Bool, not, _||_, and-true, and-false}

@@ -1,4 +1,5 @@
--- Laws of a write: its refusals, what an accepted one relies on, and that its bytes are the model's stores.
+-- A written byte changes one place: where a slot lies, the entered state is the model's store, and the bytes of a write follow one by
+-- one. Refusal 5 as the code tests it, and what an accepted write relies on.
 -- Assumes nothing.
 use mathlib.Core.Path.{_≡_, refl, sym, ap, _∙_}
 use mathlib.Core.Bool.{false, _&&_, _||_}

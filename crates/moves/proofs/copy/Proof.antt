@@ -1,4 +1,5 @@
--- `moves::copy` meets its contract.
+-- `moves::copy` meets its contract: after k turns the first k places have the source's bytes and all else is as it was: a `patch` that
+-- is one longer each turn.
 -- Assumes nothing.
 use mathlib.Core.Path.{_≡_, refl}
 use Prim.Native.Nat.{_+_, _-_, _≤_}

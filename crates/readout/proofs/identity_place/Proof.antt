@@ -1,4 +1,5 @@
--- `readout::identity_place` meets its contract.
+-- `readout::identity_place` meets its contract: the tests come in the definition's order, the field number, then the live page, then the
+-- factory page, and each ending is one of its cases.
 -- Assumes nothing.
 use mathlib.Core.Path.{sym, _∙_}
 use borrow.Author.Needs.{needs}

@@ -1,4 +1,5 @@
--- `readout::identity_view` meets its contract.
+-- `readout::identity_view` meets its contract: a place that was found lies inside its page, so the view is that part of it; where none
+-- was found the page is 0 and the view empty.
 -- Assumes nothing.
 use mathlib.Core.Path.{refl}
 use mathlib.Core.Bool.{true, false}

@@ -1,4 +1,5 @@
--- `readout::limits_of` meets its contract.
+-- `readout::limits_of` meets its contract: the four stand two bytes apart from the quantity's first threshold on, each in the quantity's
+-- unit.
 -- Assumes nothing.
 use Prim.Native.Nat.{_+_}
 use native.Mathlib.Omega.{arith}

@@ -1,4 +1,5 @@
--- `readout::monitor` meets its contract.
+-- `readout::monitor` meets its contract: once it is not refused and measured, the answer goes by the quantity's kind alone, and one
+-- lemma serves the four kinds.
 -- Assumes nothing.
 use mathlib.Core.Path.{_≡_, refl}
 use borrow.Author.Tests.{ne-eqb, le-leb}

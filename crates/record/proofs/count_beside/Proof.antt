@@ -1,6 +1,7 @@
--- `record::count_beside` meets its contract.
+-- `record::count_beside` meets its contract: the count so far is that of the pairs already gone through, and is at most 8 for each, so
+-- that a u8 holds it.
 -- Assumes nothing.
-use Prim.Native.Nat.{_≤_, _*_, _-_, _+_}
+use Prim.Native.Nat.{_≤_, _*_, _-_}
 use mathlib.Core.Path.{_≡_, refl}
 use mathlib.Core.List.{map}
 use native.Mathlib.Omega.{arith}

@@ -1,4 +1,5 @@
--- `record::entry` meets its contract.
+-- `record::entry` meets its contract: class by class, the code's sum is the definition's byte; of the page byte it goes by whether the
+-- page is supported.
 -- Assumes nothing.
 use mathlib.Core.Path.{sym, _∙_}
 use borrow.Author.Needs.{needs}

@@ -1,4 +1,5 @@
--- `record::raise` meets its contract.
+-- `record::raise` meets its contract: after k turns the first k flag bytes are the old ones with the conditions in them, and the rest of
+-- the state is as it was.
 -- Assumes nothing.
 use Prim.Native.Nat.{_≤_, _-_, _+_}
 use mathlib.Core.Path.{_≡_, refl}

@@ -1,4 +1,5 @@
--- `record::status` meets its contract.
+-- `record::status` meets its contract: bits 2 and 0 are taken from the stored byte by division; bit 1 is 1 just where the count, which
+-- is what an interrupt stands by, is 0.
 -- Assumes nothing.
 use mathlib.Core.Path.{_≡_, _∙_}
 use mathlib.Core.Logic.{_≢_}

@@ -1,4 +1,5 @@
--- `module::read::accept` meets its contract.
+-- `module::read::accept` meets its contract: that it is not refused gives what the callees ask for; the bytes are shown from the state
+-- as it was, and only then are its flags cleared.
 -- Assumes nothing.
 use mathlib.Core.Path.{refl}
 use lib.ListN.{length}

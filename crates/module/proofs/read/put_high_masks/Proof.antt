@@ -1,12 +1,14 @@
 -- `module::read::put_high_masks` meets its contract.
 -- Assumes nothing.
 use denote.Ref.{now}
-use borrow.Author.Tests.{ne-eqb}
 use borrow.Author.Needs.{needs}
 use Rattle.laws.proofs.Fronts.{front-self}
 use Rattle.module.proofs.read.Shown.{masks-shown}
 use Rattle.module.proofs.read.put_high_masks.Statement.{statement}
 use Rattle.module.proofs.read.put_high_masks.Tie as tie
+
+is-on-requires : tie.Need-is-on-requires
+is-on-requires c κs = search needs
 
 high-mask-lane-requires : tie.Need-high-mask-lane-requires
 high-mask-lane-requires c κs = search needs
@@ -21,17 +23,18 @@ returns : tie.Need-returns
 returns c =
     let d = c .before .before in
     let i = d .before .before .before in
-    let s = i .before .before .before in
+    let o = i .before in
+    let s = o .before .before .before in
     let x = s .args in
     let l = d .before .high-mask-lane .ensures in
-    rw (i .if1 .taken)
+    rw (← o .is-on .ensures, i .if1 .taken)
     (masks-shown (now (x .out)) (x .run .first .0) (x .run .many) (s .pre .3) (now (x .state)) (x .base .0) (rw (l .0, l .1, l .2) at (d .put-lane .ensures)))
 
 returns-2 : tie.Need-returns-2
 returns-2 c =
-    let s = c .before .before .before in
-    rw (ne-eqb _ _ (c .if1 .left)) (front-self (s .args .run .many) (now (s .args .out)) (s .pre .3))
+    let s = c .before .before .before .before in
+    rw (← c .before .is-on .ensures, c .if1 .left) (front-self (s .args .run .many) (now (s .args .out)) (s .pre .3))
 
 pub put-high-masks-spec : {M : Type 1} → statement M
 put-high-masks-spec =
-    tie.close (tie.spec high-mask-lane-requires put-lane-requires same-length returns returns-2)
+    tie.close (tie.spec is-on-requires high-mask-lane-requires put-lane-requires same-length returns returns-2)

@@ -1,4 +1,5 @@
--- `module::read::put_own` meets its contract.
+-- `module::read::put_own` meets its contract: four layers, one over the other: blanks, the page, the masks, the flags; together they are
+-- what lower memory shows of a record.
 -- Assumes nothing.
 use denote.Ref.{now}
 use borrow.Author.Needs.{needs}

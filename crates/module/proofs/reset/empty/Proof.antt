@@ -1,4 +1,4 @@
--- `module::reset::empty` meets its contract.
+-- `module::reset::empty` meets its contract: the six runs, laid over each other, are the places that the definition empties.
 -- Assumes nothing.
 use borrow.Author.Needs.{needs}
 use Rattle.module.proofs.reset.Laws.{empty-all}

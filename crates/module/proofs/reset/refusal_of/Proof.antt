@@ -1,4 +1,5 @@
--- `module::reset::refusal_of` meets its contract.
+-- `module::reset::refusal_of` meets its contract: the tests come in the definition's order: 688 bytes, 640 bytes, then both codes of the
+-- image's page 00h.
 -- Assumes nothing.
 use borrow.Author.Tests.{eq-eqb, ne-eqb}
 use borrow.Author.Needs.{needs}

@@ -1,4 +1,5 @@
--- `module::sample::store` meets its contract.
+-- `module::sample::store` meets its contract: the quantities are stored the last one first, each a run over the others, and byte 2 at
+-- the end.
 -- Assumes nothing.
 use lib.ListN.{length-set}
 use borrow.Author.Needs.{needs}

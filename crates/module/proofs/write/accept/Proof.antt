@@ -1,4 +1,5 @@
--- `module::write::accept` meets its contract.
+-- `module::write::accept` meets its contract: that it is not refused gives the length, the page and the range that the callees ask for;
+-- their bytes are then the model's.
 -- Assumes nothing.
 use mathlib.Core.Path.{refl}
 use native.Mathlib.Omega.{arith}

@@ -1,4 +1,5 @@
--- `module::write::run_refusal` meets its contract.
+-- `module::write::run_refusal` meets its contract: the code's differences are the definition's sums, as a write has at most 4 bytes; the
+-- tests then come in its order.
 -- Assumes nothing.
 use native.Mathlib.Omega.{arith}
 use borrow.Author.Needs.{needs}

@@ -1,4 +1,5 @@
--- `module::write::write_byte` meets its contract.
+-- `module::write::write_byte` meets its contract: slot by slot, the one byte that is entered is the model's store there; a flag byte,
+-- byte 2 and a blank take none.
 -- Assumes nothing.
 use mathlib.Core.Path.{refl}
 use native.Mathlib.Omega.{arith}

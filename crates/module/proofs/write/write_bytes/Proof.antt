@@ -1,4 +1,5 @@
--- `module::write::write_bytes` meets its contract.
+-- `module::write::write_bytes` meets its contract: after k turns the state is what the model's first k stores leave, each by the page
+-- that was selected before the call.
 -- Assumes nothing.
 use mathlib.Core.Path.{_≡_, refl, _∙_}
 use Prim.Native.Nat.{_≤_, _-_}

@@ -1,4 +1,5 @@
--- `readout::fields::trimmed` meets its contract.
+-- `readout::fields::trimmed` meets its contract: what is left of all the bytes is what is left of the first n, as all behind them are
+-- blanks; at the first that is no blank it is n.
 -- Assumes nothing.
 use mathlib.Core.Path.{_≡_, sym, _∙_}
 use mathlib.Core.Logic.{_≢_}

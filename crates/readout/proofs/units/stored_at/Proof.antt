@@ -1,4 +1,5 @@
--- `readout::units::stored_at` meets its contract.
+-- `readout::units::stored_at` meets its contract: temperature and supply stand at their own registers; from monitor 2 on the numbers
+-- stand one after the other.
 -- Assumes nothing.
 use mathlib.Core.Path.{_≡_, refl, _∙_}
 use Prim.Native.Nat.{_+_, _-_, _*_}
