@@ -1,8 +1,9 @@
--- What the enums of `address` stand for: document 01's seats and classes.
+-- What the forms of `address` stand for: a register's places, and document 01's seats and classes.
 -- Assumes nothing.
-use Rattle.laws.specs.Words.{ℕ, ltb, if_then_else_}
+use Rattle.laws.specs.Words.{ℕ, suc, _-_, ltb, if_then_else_}
 use Rattle.model.specs.Map.{Seat, flag, mine, common, status, blank, pageSize, paged}
 use Rattle.model.specs.Writing as writing
+use Rattle.address.specs.declared.Register.{Register}
 use Rattle.address.specs.declared.Slot.{Slot}
 use Rattle.address.specs.declared.Slot.the-variants.{Flag, Mine, Common, Status, Blank}
 use Rattle.address.specs.declared.Class.{Class}
@@ -11,6 +12,13 @@ use Rattle.address.specs.declared.Class.the-variants.{Nothing, All, LowF
 -- where the memory holds the byte of address a, with page g selected
 abbrev pub storedAt : ℕ → ℕ → ℕ
 storedAt g a = if ltb a pageSize then a else paged g a
+
+-- of a register, where the memory holds its first byte, and how many it has
+abbrev pub heldAt : Register → ℕ
+heldAt r = storedAt (r .0) (r .1)
+
+abbrev pub lengthOf : Register → ℕ
+lengthOf r = suc (r .2) - r .1
 
 abbrev pub seatOf : Slot → Seat
 seatOf (Flag k) = flag k

@@ -2,7 +2,7 @@
 // Nothing outside this crate can make a place: what it cannot name by a register, or by a port and a byte of its record, it cannot reach.
 // Proved: each function gives the definition that its contract cites (document 01, "The 688 bytes" and "Writing").
 ghost use mathlib.Core.Path.{_≡_};
-ghost use Prim.Native.Nat.{suc, _<_, _≤_, _+_, _-_, _*_, max, min};
+ghost use Prim.Native.Nat.{_<_, _≤_, _+_, _-_, _*_, max, min};
 ghost use lib.Dec.{eqb};
 ghost use lib.ListN.{length};
 ghost use Rattle.laws.specs.Tests.{covers};
@@ -11,7 +11,7 @@ ghost use Rattle.model.specs.Map.{memorySize, recordSize, stateSize, base, comm
 ghost use Rattle.model.specs.Reading.{shared};
 ghost use Rattle.model.specs.Bytes.{memoryOf};
 ghost use Rattle.model.specs.Writing.{ownClass, classOf};
-ghost use Rattle.address.specs.Meaning.{storedAt, seatOf, means};
+ghost use Rattle.address.specs.Meaning.{storedAt, heldAt, lengthOf, seatOf, means};
 
 pub mod registers;
 
@@ -140,7 +140,7 @@ pub fn records() -> PlaceRun
 // How many addresses a register has.
 pub fn length_of(r: Register) -> usize
     requires { ⌜ r .1 ≤ r .2 ⌝ }
-    ensures { λ n. ⌜ n ≡ suc (r .2) - r .1 ⌝ }
+    ensures { λ n. ⌜ n ≡ lengthOf r ⌝ }
 {
     (r.2 - r.1) as usize + 1
 }
@@ -148,7 +148,7 @@ pub fn length_of(r: Register) -> usize
 // Its addresses.
 pub fn hosts_of(r: Register) -> HostRun
     requires { ⌜ r .1 ≤ r .2 ⌝ }
-    ensures { λ h. ⌜ (h .first .0 ≡ r .1) × (h .many ≡ suc (r .2) - r .1) ⌝ }
+    ensures { λ h. ⌜ (h .first .0 ≡ r .1) × (h .many ≡ lengthOf r) ⌝ }
 {
     HostRun {
         first: HostAddress(r.1),
@@ -166,7 +166,7 @@ pub fn is_on(r: Register, page: u8) -> bool
 // Whether an address is one of its addresses.
 fn has(r: Register, a: HostAddress) -> bool
     requires { ⌜ r .1 ≤ r .2 ⌝ }
-    ensures { λ t. ⌜ t ≡ covers (r .1) (suc (r .2) - r .1) (a .0) ⌝ }
+    ensures { λ t. ⌜ t ≡ covers (r .1) (lengthOf r) (a .0) ⌝ }
 {
     (r.1 <= a.0) & (a.0 <= r.2)
 }
@@ -196,7 +196,7 @@ pub fn stored_at(a: HostAddress, page: u8) -> Place
 // Where it holds the first byte of a register.
 pub fn place_of(r: Register) -> Place
     requires { ⌜ r .0 < 4 ⌝ }
-    ensures { λ p. ⌜ (p .0 ≡ storedAt (r .0) (r .1)) × (p .0 < memorySize) ⌝ }
+    ensures { λ p. ⌜ (p .0 ≡ heldAt r) × (p .0 < memorySize) ⌝ }
 {
     stored_at(HostAddress(r.1), r.0)
 }
@@ -204,7 +204,7 @@ pub fn place_of(r: Register) -> Place
 // Where it holds all of them.
 pub fn places_of(r: Register) -> PlaceRun
     requires { ⌜ (r .0 < 4) × (r .1 ≤ r .2) ⌝ }
-    ensures { λ p. ⌜ (p .first .0 ≡ storedAt (r .0) (r .1)) × (p .many ≡ suc (r .2) - r .1) ⌝ }
+    ensures { λ p. ⌜ (p .first .0 ≡ heldAt r) × (p .many ≡ lengthOf r) ⌝ }
 {
     PlaceRun {
         first: place_of(r),
@@ -215,7 +215,7 @@ pub fn places_of(r: Register) -> PlaceRun
 // All of the memory before a register.
 pub fn memory_before(r: Register) -> PlaceRun
     requires { ⌜ r .0 < 4 ⌝ }
-    ensures { λ p. ⌜ (p .first .0 ≡ 0) × (p .many ≡ storedAt (r .0) (r .1)) ⌝ }
+    ensures { λ p. ⌜ (p .first .0 ≡ 0) × (p .many ≡ heldAt r) ⌝ }
 {
     PlaceRun {
         first: Place(0),
@@ -225,8 +225,8 @@ pub fn memory_before(r: Register) -> PlaceRun
 
 // All of the memory behind it.
 pub fn memory_behind(r: Register) -> PlaceRun
-    requires { ⌜ (r .0 < 4) × (r .1 ≤ r .2) × (storedAt (r .0) (r .1) + (suc (r .2) - r .1) ≤ memorySize) ⌝ }
-    ensures { λ p. ⌜ (p .first .0 ≡ storedAt (r .0) (r .1) + (suc (r .2) - r .1)) × (p .many ≡ memorySize - (storedAt (r .0) (r .1) + (suc (r .2) - r .1))) ⌝ }
+    requires { ⌜ (r .0 < 4) × (r .1 ≤ r .2) × (heldAt r + lengthOf r ≤ memorySize) ⌝ }
+    ensures { λ p. ⌜ (p .first .0 ≡ heldAt r + lengthOf r) × (p .many ≡ memorySize - (heldAt r + lengthOf r)) ⌝ }
 {
     let end = place_of(r).0 + length_of(r);
     PlaceRun {
@@ -238,7 +238,7 @@ pub fn memory_behind(r: Register) -> PlaceRun
 // Its first byte, as it is stored.
 pub fn stored(state: &[u8], r: Register) -> u8
     requires { ⌜ (length (now state) ≡ stateSize) × (r .0 < 4) ⌝ }
-    ensures { λ v. ⌜ v ≡ memoryOf (now (state .entry)) (storedAt (r .0) (r .1)) ⌝ }
+    ensures { λ v. ⌜ v ≡ memoryOf (now (state .entry)) (heldAt r) ⌝ }
 {
     let i = place_of(r).0;
     state[i]
@@ -298,7 +298,7 @@ pub struct Lane {
 
 fn laid(r: Register, from: Place) -> Lane
     requires { ⌜ r .1 ≤ r .2 ⌝ }
-    ensures { λ l. ⌜ (l .hosts .first .0 ≡ r .1) × (l .hosts .many ≡ suc (r .2) - r .1) × (l .from .0 ≡ from .0) ⌝ }
+    ensures { λ l. ⌜ (l .hosts .first .0 ≡ r .1) × (l .hosts .many ≡ lengthOf r) × (l .from .0 ≡ from .0) ⌝ }
 {
     Lane {
         hosts: hosts_of(r),
@@ -451,7 +451,7 @@ pub fn own_class(k: usize) -> Class
 // Whether a place of the memory is a register's.
 fn is_of(r: Register, p: Place) -> bool
     requires { ⌜ (r .0 < 4) × (r .1 ≤ r .2) ⌝ }
-    ensures { λ t. ⌜ t ≡ covers (storedAt (r .0) (r .1)) (suc (r .2) - r .1) (p .0) ⌝ }
+    ensures { λ t. ⌜ t ≡ covers (heldAt r) (lengthOf r) (p .0) ⌝ }
 {
     let first = place_of(r).0;
     let end = first + length_of(r);

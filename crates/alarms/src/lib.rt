@@ -10,7 +10,7 @@ ghost use Rattle.laws.specs.Lists.{at, table};
 ghost use Rattle.model.specs.Map.{stateSize, flags, paged};
 ghost use Rattle.model.specs.Samples.{word, signed, fourOf, offered, txPower, sampleSize, conds};
 ghost use Rattle.model.specs.Bytes.{memoryOf};
-ghost use Rattle.address.specs.Meaning.{storedAt};
+ghost use Rattle.address.specs.Meaning.{heldAt};
 ghost use Rattle.alarms.specs.Decoded.{numberAs, row, rows, cell};
 use address::Register;
 use address::registers;
@@ -69,7 +69,7 @@ fn rows_at(s: &[u8], i: usize) -> [[u16; 4]; 3]
 // The thresholds that a register of page 03h holds.
 fn limits_at(state: &[u8], r: Register) -> [u16; 4]
     requires { ⌜ (length (now state) ≡ stateSize) × (r .0 < 4) ⌝ }
-    ensures { λ l. ⌜ l ≡ row (now (state .entry)) (storedAt (r .0) (r .1)) ⌝ }
+    ensures { λ l. ⌜ l ≡ row (now (state .entry)) (heldAt r) ⌝ }
 {
     row_at(state, address::index(address::place_of(r)))
 }

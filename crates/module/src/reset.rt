@@ -1,7 +1,7 @@
 // The reset, on lent memory.
 // Proved: for every state and image, the refusal, the counts and the bytes left are those of the model's reset.
 ghost use mathlib.Core.Path.{_≡_};
-ghost use Prim.Native.Nat.{suc, _<_, _≤_, _+_, _-_, _*_};
+ghost use Prim.Native.Nat.{_<_, _≤_, _+_, _*_};
 ghost use lib.ListN.{length};
 ghost use Rattle.laws.specs.Tests.{if_then_else_};
 ghost use Rattle.laws.specs.Lists.{at, patch};
@@ -10,7 +10,7 @@ ghost use Rattle.model.specs.Map.{memorySize, recordSize, stateSize};
 ghost use Rattle.model.specs.Reset.{emptied, inPage02, fresh};
 ghost use Rattle.model.specs.Bytes.{refusalOf};
 ghost use Rattle.model.specs.Contracts.{Reported};
-ghost use Rattle.address.specs.Meaning.{storedAt};
+ghost use Rattle.address.specs.Meaning.{heldAt, lengthOf};
 use address::PlaceRun;
 use address::Register;
 use address::registers;
@@ -55,8 +55,8 @@ fn bring(state: &mut [u8], image: &[u8])
 
 // Empties a register.
 fn wipe(state: &mut [u8], r: Register)
-    requires { ⌜ (length (now state) ≡ stateSize) × (r .0 < 4) × (r .1 ≤ r .2) × (storedAt (r .0) (r .1) + (suc (r .2) - r .1) ≤ stateSize) ⌝ }
-    ensures { λ _. ⌜ now (state .exit) ≡ patch (storedAt (r .0) (r .1)) (suc (r .2) - r .1) (λ j. 0) (now (state .entry)) ⌝ }
+    requires { ⌜ (length (now state) ≡ stateSize) × (r .0 < 4) × (r .1 ≤ r .2) × (heldAt r + lengthOf r ≤ stateSize) ⌝ }
+    ensures { λ _. ⌜ now (state .exit) ≡ patch (heldAt r) (lengthOf r) (λ j. 0) (now (state .entry)) ⌝ }
 {
     let run = address::places_of(r);
     moves::fill(state, address::index(run.first), run.many, 0);

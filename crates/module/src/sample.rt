@@ -1,7 +1,7 @@
 // The sample, on lent memory.
 // Proved: for every state and sample, the refusal, both counts and the bytes left are those of the model's sample.
 ghost use mathlib.Core.Path.{_≡_};
-ghost use Prim.Native.Nat.{suc, _<_, _≤_, _+_, _-_};
+ghost use Prim.Native.Nat.{_<_, _≤_, _+_};
 ghost use lib.ListN.{length};
 ghost use Rattle.laws.specs.Tests.{if_then_else_};
 ghost use Rattle.laws.specs.Lists.{at, patch};
@@ -10,7 +10,7 @@ ghost use Rattle.model.specs.Map.{memorySize, stateSize};
 ghost use Rattle.model.specs.Samples.{sampleSize, stored, offered, txPower};
 ghost use Rattle.model.specs.Bytes.{memoryOf, refusalOf};
 ghost use Rattle.model.specs.Contracts.{Reported};
-ghost use Rattle.address.specs.Meaning.{storedAt};
+ghost use Rattle.address.specs.Meaning.{heldAt, lengthOf};
 use address::Register;
 use address::registers;
 use record::Answers;
@@ -35,8 +35,8 @@ fn refusal_of(state: &[u8], x: &[u8]) -> u8
 
 // Stores in a register the sample's bytes from `from` on.
 fn store_in(state: &mut [u8], r: Register, x: &[u8], from: usize)
-    requires { ⌜ (length (now state) ≡ stateSize) × (r .0 < 4) × (r .1 ≤ r .2) × (storedAt (r .0) (r .1) + (suc (r .2) - r .1) ≤ stateSize) × (from + (suc (r .2) - r .1) ≤ length (now x)) ⌝ }
-    ensures { λ _. ⌜ now (state .exit) ≡ patch (storedAt (r .0) (r .1)) (suc (r .2) - r .1) (λ j. at (now (x .entry)) (from + j)) (now (state .entry)) ⌝ }
+    requires { ⌜ (length (now state) ≡ stateSize) × (r .0 < 4) × (r .1 ≤ r .2) × (heldAt r + lengthOf r ≤ stateSize) × (from + lengthOf r ≤ length (now x)) ⌝ }
+    ensures { λ _. ⌜ now (state .exit) ≡ patch (heldAt r) (lengthOf r) (λ j. at (now (x .entry)) (from + j)) (now (state .entry)) ⌝ }
 {
     let run = address::places_of(r);
     moves::copy(state, address::index(run.first), x, from, run.many);

@@ -1,9 +1,10 @@
 // The identity fields of a page: whether the page is sound, where a field starts in it, and how long it is.
 ghost use mathlib.Core.Path.{_≡_};
-ghost use Prim.Native.Nat.{suc, _+_, _-_, _≤_};
+ghost use Prim.Native.Nat.{_+_, _≤_};
 ghost use lib.ListN.{length};
 ghost use Rattle.model.specs.Map.{pageSize};
 ghost use Rattle.model.specs.Readout.{soundPage, fieldRun, fieldStart, trimmed, fieldLength};
+ghost use Rattle.address.specs.Meaning.{lengthOf};
 use address::Register;
 use address::registers;
 
@@ -25,7 +26,7 @@ pub fn is_sound(page: &[u8]) -> bool
 // The register of page 00h that a field is.
 fn register_of(field: u64) -> Register
     requires { ⌜ (1 ≤ field) × (field ≤ 6) ⌝ }
-    ensures { λ r. ⌜ (r .1 ≡ fieldRun field .first) × (suc (r .2) - r .1 ≡ fieldRun field .many) × (pageSize ≤ r .1) × (r .1 ≤ r .2) ⌝ }
+    ensures { λ r. ⌜ (r .1 ≡ fieldRun field .first) × (lengthOf r ≡ fieldRun field .many) × (pageSize ≤ r .1) × (r .1 ≤ r .2) ⌝ }
 {
     match field {
         1 => registers::VENDOR_NAME,
