@@ -6,8 +6,8 @@ use Rattle.model.specs.Writing as writing
 use Rattle.address.specs.declared.Register.{Register}
 use Rattle.address.specs.declared.Slot.{Slot}
 use Rattle.address.specs.declared.Slot.the-variants.{Flag, Mine, Common, Status, Blank}
-use Rattle.address.specs.declared.Class.{Class}
-use Rattle.address.specs.declared.Class.the-variants.{Nothing, All, LowFour, LowThree, HighFour, Page}
+use Rattle.address.specs.declared.classes.Class.{Class}
+use Rattle.address.specs.declared.classes.Class.the-variants.{Nothing, All, LowFour, LowThree, HighFour, Page}
 
 -- where the memory holds the byte of address a, with page g selected
 abbrev pub storedAt : ℕ → ℕ → ℕ

@@ -1,19 +1,33 @@
-// Host addresses, places in the state, the one bridge between them, and which bits a port may write where.
+// Host addresses, places in the state, and the one bridge between them; by runs it is lanes.rt, every register by name registers.rt,
+// the bits that a port may write classes.rt.
 // Nothing outside this crate can make a place: what it cannot name by a register, or by a port and a byte of its record, it cannot reach.
 // Proved: each function gives the definition that its contract cites (document 01, "The 688 bytes" and "Writing").
 ghost use mathlib.Core.Path.{_≡_};
-ghost use Prim.Native.Nat.{_<_, _≤_, _+_, _-_, _*_, max, min};
+ghost use Prim.Native.Nat.{_<_, _≤_, _+_, _-_, _*_};
 ghost use lib.Dec.{eqb};
 ghost use lib.ListN.{length};
 ghost use Rattle.laws.specs.Tests.{covers};
 ghost use Rattle.model.specs.Ports.{caller};
-ghost use Rattle.model.specs.Map.{memorySize, recordSize, stateSize, base, common, seat, paged, pageSize, flags, lowMasks, highMasks, lowMaskOf, highMaskOf, pageAt};
-ghost use Rattle.model.specs.Reading.{shared};
+ghost use Rattle.model.specs.Map.{memorySize, recordSize, stateSize, pageSize, base, seat};
 ghost use Rattle.model.specs.Bytes.{memoryOf};
-ghost use Rattle.model.specs.Writing.{ownClass, classOf};
-ghost use Rattle.address.specs.Meaning.{storedAt, heldAt, lengthOf, seatOf, means};
+ghost use Rattle.address.specs.Meaning.{storedAt, heldAt, lengthOf, seatOf};
 
+mod classes;
+mod lanes;
 pub mod registers;
+
+pub use classes::Class;
+pub use classes::common_class;
+pub use classes::own_class;
+pub use lanes::Lane;
+pub use lanes::flag_lane;
+pub use lanes::high_mask_lane;
+pub use lanes::low_mask_lane;
+pub use lanes::lower_lane;
+pub use lanes::page_byte_lane;
+pub use lanes::page_lane;
+pub use lanes::part_of;
+pub use lanes::piece_of;
 
 // ---- sizes
 
@@ -286,204 +300,4 @@ pub fn translate(a: HostAddress, page: u8) -> Slot
         return Slot::Mine(HIGH_MASKS_IN + steps_to(registers::HIGH_MASKS, a));
     }
     Slot::Common(stored_at(a, page))
-}
-
-// ---- the same for runs
-
-// Addresses in a row whose bytes stand in a row, the first at `from`.
-pub struct Lane {
-    hosts: HostRun,
-    from: Place,
-}
-
-fn laid(r: Register, from: Place) -> Lane
-    requires { ⌜ r .1 ≤ r .2 ⌝ }
-    ensures { λ l. ⌜ (l .hosts .first .0 ≡ r .1) × (l .hosts .many ≡ lengthOf r) × (l .from .0 ≡ from .0) ⌝ }
-{
-    Lane {
-        hosts: hosts_of(r),
-        from,
-    }
-}
-
-// Lower memory, as it is stored.
-pub fn lower_lane() -> Lane
-    ensures { λ l. ⌜ (l .hosts .first .0 ≡ 0) × (l .hosts .many ≡ pageSize) × (l .from .0 ≡ 0) ⌝ }
-{
-    laid(registers::LOWER, place_of(registers::LOWER))
-}
-
-// The selected page, as it is stored.
-pub fn page_lane(page: u8) -> Lane
-    requires { ⌜ page < 4 ⌝ }
-    ensures { λ l. ⌜ (l .hosts .first .0 ≡ pageSize) × (l .hosts .many ≡ pageSize) × (l .from .0 ≡ paged page pageSize) ⌝ }
-{
-    laid(
-        registers::PAGE_00,
-        stored_at(HostAddress(registers::PAGE_00.1), page),
-    )
-}
-
-// Of the record that begins at `base`: its flags.
-pub fn flag_lane(base: Place) -> Lane
-    requires { ⌜ base .0 + recordSize ≤ stateSize ⌝ }
-    ensures { λ l. ⌜ (l .hosts .first .0 ≡ flags .first) × (l .hosts .many ≡ flags .many) × (l .from .0 ≡ base .0) ⌝ }
-{
-    laid(registers::FLAGS, in_record(base, FLAGS_IN))
-}
-
-// Its masks of lower memory.
-pub fn low_mask_lane(base: Place) -> Lane
-    requires { ⌜ base .0 + recordSize ≤ stateSize ⌝ }
-    ensures { λ l. ⌜ (l .hosts .first .0 ≡ lowMasks .first) × (l .hosts .many ≡ lowMasks .many) × (l .from .0 ≡ base .0 + lowMaskOf (lowMasks .first)) ⌝ }
-{
-    laid(registers::LOW_MASKS, in_record(base, LOW_MASKS_IN))
-}
-
-// Its masks of page 03h.
-pub fn high_mask_lane(base: Place) -> Lane
-    requires { ⌜ base .0 + recordSize ≤ stateSize ⌝ }
-    ensures { λ l. ⌜ (l .hosts .first .0 ≡ highMasks .first) × (l .hosts .many ≡ highMasks .many) × (l .from .0 ≡ base .0 + highMaskOf (highMasks .first)) ⌝ }
-{
-    laid(registers::HIGH_MASKS, in_record(base, HIGH_MASKS_IN))
-}
-
-// Its page.
-pub fn page_byte_lane(base: Place) -> Lane
-    requires { ⌜ base .0 + recordSize ≤ stateSize ⌝ }
-    ensures { λ l. ⌜ (l .hosts .first .0 ≡ 127) × (l .hosts .many ≡ 1) × (l .from .0 ≡ base .0 + pageAt) ⌝ }
-{
-    laid(registers::SELECT, in_record(base, PAGE_IN))
-}
-
-// The later of two numbers.
-fn later(a: usize, b: usize) -> usize
-    ensures { λ r. ⌜ r ≡ max a b ⌝ }
-{
-    if a < b { b } else { a }
-}
-
-// The sooner of two numbers.
-fn sooner(a: usize, b: usize) -> usize
-    ensures { λ r. ⌜ r ≡ min a b ⌝ }
-{
-    if a < b { a } else { b }
-}
-
-// How many numbers there are from `a` on before `b`.
-fn between(a: usize, b: usize) -> usize
-    ensures { λ r. ⌜ r ≡ b - a ⌝ }
-{
-    if a < b { b - a } else { 0 }
-}
-
-// What of a run of addresses another run has: how many of the run come before it, and how many it is.
-pub struct Part {
-    pub skip: usize,
-    pub many: usize,
-}
-
-pub fn part_of(run: HostRun, other: HostRun) -> Part
-    requires { ⌜ (run .first .0 + run .many ≤ 256) × (other .first .0 + other .many ≤ 256) ⌝ }
-    ensures { λ r. ⌜ (r .skip ≡ max (run .first .0) (other .first .0) - run .first .0) × (r .many ≡ min (run .first .0 + run .many) (other .first .0 + other .many) - max (run .first .0) (other .first .0)) ⌝ }
-{
-    let a = run.first.0 as usize;
-    let b = other.first.0 as usize;
-    let first = later(a, b);
-    Part {
-        skip: first - a,
-        many: between(first, sooner(a + run.many, b + other.many)),
-    }
-}
-
-// What of a run of addresses a lane has: how many of the run come before it, and the places of its bytes.
-pub struct Piece {
-    pub skip: usize,
-    pub places: PlaceRun,
-}
-
-pub fn piece_of(run: HostRun, lane: Lane) -> Piece
-    requires { ⌜ (run .first .0 + run .many ≤ 256) × (lane .hosts .first .0 + lane .hosts .many ≤ 256) × (lane .from .0 ≤ stateSize) ⌝ }
-    ensures { λ r. ⌜ (r .skip ≡ max (run .first .0) (lane .hosts .first .0) - run .first .0) × (r .places .first .0 ≡ lane .from .0 + (max (run .first .0) (lane .hosts .first .0) - lane .hosts .first .0)) × (r .places .many ≡ min (run .first .0 + run .many) (lane .hosts .first .0 + lane .hosts .many) - max (run .first .0) (lane .hosts .first .0)) ⌝ }
-{
-    let hosts = lane.hosts;
-    let part = part_of(run, hosts);
-    let skip = part.skip;
-    let many = part.many;
-    let into = skip + run.first.0 as usize - hosts.first.0 as usize;
-    Piece {
-        skip,
-        places: PlaceRun {
-            first: Place(lane.from.0 + into),
-            many,
-        },
-    }
-}
-
-// ---- writable bits
-
-// The bits of a byte that a write reaches.
-pub enum Class {
-    Nothing,
-    All,
-    LowFour,
-    LowThree,
-    HighFour,
-    Page,
-}
-
-// Of byte `k` of a record, for its port.
-pub fn own_class(k: usize) -> Class
-    ensures { λ r. ⌜ means r ≡ ownClass k ⌝ }
-{
-    if (k == TEMPERATURE_MASK_IN) | (k == SUPPLY_MASK_IN) {
-        return Class::HighFour;
-    }
-    if k == PAGE_IN {
-        return Class::Page;
-    }
-    if (LOW_MASKS_IN <= k) & (k < PAGE_IN) {
-        return Class::All;
-    }
-    Class::Nothing
-}
-
-// Whether a place of the memory is a register's.
-fn is_of(r: Register, p: Place) -> bool
-    requires { ⌜ (r .0 < 4) × (r .1 ≤ r .2) ⌝ }
-    ensures { λ t. ⌜ t ≡ covers (heldAt r) (lengthOf r) (p .0) ⌝ }
-{
-    let first = place_of(r).0;
-    let end = first + length_of(r);
-    (first <= p.0) & (p.0 < end)
-}
-
-// Whether it is on the shared list.
-fn is_shared(p: Place) -> bool
-    ensures { λ r. ⌜ r ≡ shared (p .0) ⌝ }
-{
-    is_of(registers::TX_DISABLE, p)
-        | (is_of(registers::RATE_SELECT, p)
-            | (is_of(registers::POWER, p)
-                | (is_of(registers::CDR, p)
-                    | (is_of(registers::PAGE_02, p) | is_of(registers::CHANNEL_CONTROLS, p)))))
-}
-
-// Of a place of the memory, for a port.
-pub fn common_class(port: u64, p: Place) -> Class
-    ensures { λ r. ⌜ means r ≡ classOf (caller port) (common (p .0)) ⌝ }
-{
-    if port != 1 {
-        return Class::Nothing;
-    }
-    if is_shared(p) {
-        if is_of(registers::TX_DISABLE, p) {
-            return Class::LowFour;
-        }
-        if is_of(registers::POWER, p) {
-            return Class::LowThree;
-        }
-        return Class::All;
-    }
-    Class::Nothing
 }

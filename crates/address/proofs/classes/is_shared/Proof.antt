@@ -1,10 +1,10 @@
--- `address::is_shared` meets its contract.
+-- `address::classes::is_shared` meets its contract.
 -- Assumes nothing.
 use borrow.Author.Needs.{needs}
 use Rattle.laws.proofs.Tests.{covers-one}
 use Rattle.model.specs.Reading.{shared}
-use Rattle.address.proofs.is_shared.Statement.{statement}
-use Rattle.address.proofs.is_shared.Tie as tie
+use Rattle.address.proofs.classes.is_shared.Statement.{statement}
+use Rattle.address.proofs.classes.is_shared.Tie as tie
 
 is-of-requires : tie.Need-is-of-requires
 is-of-requires c κs = search needs

@@ -1,4 +1,4 @@
--- `address::common_class` meets its contract: the class is the definition's, by the port, then by whether the place is shared, then by
+-- `address::classes::common_class` meets its contract: the class is the definition's, by the port, then by whether the place is shared, then by
 -- whether it is that of 86 or of 93; a register of one byte is one number.
 -- Assumes nothing.
 use mathlib.Core.Path.{_≡_}
@@ -9,8 +9,8 @@ use Rattle.laws.proofs.Tests.{covers-one}
 use Rattle.model.specs.Ports.{caller}
 use Rattle.model.specs.Map.{common}
 use Rattle.model.specs.Writing.{all, lowThree, classOf}
-use Rattle.address.proofs.common_class.Statement.{statement}
-use Rattle.address.proofs.common_class.Tie as tie
+use Rattle.address.proofs.classes.common_class.Statement.{statement}
+use Rattle.address.proofs.classes.common_class.Tie as tie
 
 returns : tie.Need-returns
 returns c = rw (ne-eqb _ _ (c .if1 .taken))

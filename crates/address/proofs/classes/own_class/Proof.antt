@@ -1,8 +1,8 @@
--- `address::own_class` meets its contract.
+-- `address::classes::own_class` meets its contract.
 -- Assumes nothing.
 use borrow.Author.Tests.{ne-eqb}
-use Rattle.address.proofs.own_class.Statement.{statement}
-use Rattle.address.proofs.own_class.Tie as tie
+use Rattle.address.proofs.classes.own_class.Statement.{statement}
+use Rattle.address.proofs.classes.own_class.Tie as tie
 
 returns : tie.Need-returns
 returns c = rw (c .if1 .taken)

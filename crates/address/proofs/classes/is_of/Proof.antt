@@ -1,8 +1,8 @@
--- `address::is_of` meets its contract.
+-- `address::classes::is_of` meets its contract.
 -- Assumes nothing.
 use borrow.Author.Needs.{needs}
-use Rattle.address.proofs.is_of.Statement.{statement}
-use Rattle.address.proofs.is_of.Tie as tie
+use Rattle.address.proofs.classes.is_of.Statement.{statement}
+use Rattle.address.proofs.classes.is_of.Tie as tie
 
 place-of-requires : tie.Need-place-of-requires
 place-of-requires c κs = search needs
