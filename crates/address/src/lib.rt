@@ -1,24 +1,30 @@
-// Host addresses, places in the state, and the one bridge between them; by runs it is lanes.rt, every register by name registers.rt,
-// the bits that a port may write classes.rt.
+// Host addresses, places in the state, and the one bridge between them; by runs it is lanes.rt, by registers held.rt. Every register by
+// name is registers.rt, the bits that a port may write classes.rt.
 // Nothing outside this crate can make a place: what it cannot name by a register, or by a port and a byte of its record, it cannot reach.
 // Proved: each function gives the definition that its contract cites (document 01, "The 688 bytes" and "Writing").
 ghost use mathlib.Core.Path.{_≡_};
-ghost use Prim.Native.Nat.{_<_, _≤_, _+_, _-_, _*_};
-ghost use lib.Dec.{eqb};
-ghost use lib.ListN.{length};
-ghost use Rattle.laws.specs.Tests.{covers};
+ghost use Prim.Native.Nat.{_<_, _≤_, _+_, _*_};
 ghost use Rattle.model.specs.Ports.{caller};
-ghost use Rattle.model.specs.Map.{memorySize, recordSize, stateSize, pageSize, base, seat};
-ghost use Rattle.model.specs.Bytes.{memoryOf};
-ghost use Rattle.address.specs.Meaning.{storedAt, heldAt, lengthOf, seatOf};
+ghost use Rattle.model.specs.Map.{memorySize, recordSize, stateSize, base, seat};
+ghost use Rattle.address.specs.Meaning.{storedAt, seatOf};
 
 mod classes;
+mod held;
 mod lanes;
 pub mod registers;
 
 pub use classes::Class;
 pub use classes::common_class;
 pub use classes::own_class;
+pub use held::hosts_of;
+pub use held::in_page;
+pub use held::is_on;
+pub use held::length_of;
+pub use held::memory_before;
+pub use held::memory_behind;
+pub use held::place_of;
+pub use held::places_of;
+pub use held::stored;
 pub use lanes::Lane;
 pub use lanes::flag_lane;
 pub use lanes::high_mask_lane;
@@ -149,50 +155,6 @@ pub fn records() -> PlaceRun
     }
 }
 
-// ---- registers
-
-// How many addresses a register has.
-pub fn length_of(r: Register) -> usize
-    requires { ⌜ r .1 ≤ r .2 ⌝ }
-    ensures { λ n. ⌜ n ≡ lengthOf r ⌝ }
-{
-    (r.2 - r.1) as usize + 1
-}
-
-// Its addresses.
-pub fn hosts_of(r: Register) -> HostRun
-    requires { ⌜ r .1 ≤ r .2 ⌝ }
-    ensures { λ h. ⌜ (h .first .0 ≡ r .1) × (h .many ≡ lengthOf r) ⌝ }
-{
-    HostRun {
-        first: HostAddress(r.1),
-        many: length_of(r),
-    }
-}
-
-// Whether `page` is its page.
-pub fn is_on(r: Register, page: u8) -> bool
-    ensures { λ t. ⌜ t ≡ eqb page (r .0) ⌝ }
-{
-    page == r.0
-}
-
-// Whether an address is one of its addresses.
-fn has(r: Register, a: HostAddress) -> bool
-    requires { ⌜ r .1 ≤ r .2 ⌝ }
-    ensures { λ t. ⌜ t ≡ covers (r .1) (lengthOf r) (a .0) ⌝ }
-{
-    (r.1 <= a.0) & (a.0 <= r.2)
-}
-
-// How many of them come before it.
-fn steps_to(r: Register, a: HostAddress) -> usize
-    requires { ⌜ r .1 ≤ a .0 ⌝ }
-    ensures { λ n. ⌜ n ≡ a .0 - r .1 ⌝ }
-{
-    (a.0 - r.1) as usize
-}
-
 // ---- from addresses to places
 
 // Where the memory holds the byte of an address, with `page` selected.
@@ -205,65 +167,6 @@ pub fn stored_at(a: HostAddress, page: u8) -> Place
         return Place(n);
     }
     Place(n + PAGE_LEN * (page as usize))
-}
-
-// Where it holds the first byte of a register.
-pub fn place_of(r: Register) -> Place
-    requires { ⌜ r .0 < 4 ⌝ }
-    ensures { λ p. ⌜ (p .0 ≡ heldAt r) × (p .0 < memorySize) ⌝ }
-{
-    stored_at(HostAddress(r.1), r.0)
-}
-
-// Where it holds all of them.
-pub fn places_of(r: Register) -> PlaceRun
-    requires { ⌜ (r .0 < 4) × (r .1 ≤ r .2) ⌝ }
-    ensures { λ p. ⌜ (p .first .0 ≡ heldAt r) × (p .many ≡ lengthOf r) ⌝ }
-{
-    PlaceRun {
-        first: place_of(r),
-        many: length_of(r),
-    }
-}
-
-// All of the memory before a register.
-pub fn memory_before(r: Register) -> PlaceRun
-    requires { ⌜ r .0 < 4 ⌝ }
-    ensures { λ p. ⌜ (p .first .0 ≡ 0) × (p .many ≡ heldAt r) ⌝ }
-{
-    PlaceRun {
-        first: Place(0),
-        many: place_of(r).0,
-    }
-}
-
-// All of the memory behind it.
-pub fn memory_behind(r: Register) -> PlaceRun
-    requires { ⌜ (r .0 < 4) × (r .1 ≤ r .2) × (heldAt r + lengthOf r ≤ memorySize) ⌝ }
-    ensures { λ p. ⌜ (p .first .0 ≡ heldAt r + lengthOf r) × (p .many ≡ memorySize - (heldAt r + lengthOf r)) ⌝ }
-{
-    let end = place_of(r).0 + length_of(r);
-    PlaceRun {
-        first: Place(end),
-        many: MEMORY_LEN - end,
-    }
-}
-
-// Its first byte, as it is stored.
-pub fn stored(state: &[u8], r: Register) -> u8
-    requires { ⌜ (length (now state) ≡ stateSize) × (r .0 < 4) ⌝ }
-    ensures { λ v. ⌜ v ≡ memoryOf (now (state .entry)) (heldAt r) ⌝ }
-{
-    let i = place_of(r).0;
-    state[i]
-}
-
-// Where a page's own 128 bytes have the first byte of a register.
-pub fn in_page(r: Register) -> usize
-    requires { ⌜ pageSize ≤ r .1 ⌝ }
-    ensures { λ n. ⌜ n ≡ r .1 - pageSize ⌝ }
-{
-    r.1 as usize - PAGE_LEN
 }
 
 // Where an address leads: to a byte of the port's record (a flag byte, or a mask or the page), to a place of the memory, to byte 2, to
@@ -281,23 +184,23 @@ pub fn translate(a: HostAddress, page: u8) -> Slot
     requires { ⌜ page < 4 ⌝ }
     ensures { λ r. ⌜ seatOf r ≡ seat page (a .0) ⌝ }
 {
-    if has(registers::FLAGS, a) {
-        return Slot::Flag(steps_to(registers::FLAGS, a));
+    if held::has(registers::FLAGS, a) {
+        return Slot::Flag(held::steps_to(registers::FLAGS, a));
     }
-    if has(registers::LOW_MASKS, a) {
-        return Slot::Mine(LOW_MASKS_IN + steps_to(registers::LOW_MASKS, a));
+    if held::has(registers::LOW_MASKS, a) {
+        return Slot::Mine(LOW_MASKS_IN + held::steps_to(registers::LOW_MASKS, a));
     }
-    if has(registers::SELECT, a) {
+    if held::has(registers::SELECT, a) {
         return Slot::Mine(PAGE_IN);
     }
-    if has(registers::BLANKS, a) {
+    if held::has(registers::BLANKS, a) {
         return Slot::Blank;
     }
-    if has(registers::STATUS, a) {
+    if held::has(registers::STATUS, a) {
         return Slot::Status;
     }
-    if is_on(registers::HIGH_MASKS, page) & has(registers::HIGH_MASKS, a) {
-        return Slot::Mine(HIGH_MASKS_IN + steps_to(registers::HIGH_MASKS, a));
+    if is_on(registers::HIGH_MASKS, page) & held::has(registers::HIGH_MASKS, a) {
+        return Slot::Mine(HIGH_MASKS_IN + held::steps_to(registers::HIGH_MASKS, a));
     }
     Slot::Common(stored_at(a, page))
 }

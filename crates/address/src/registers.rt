@@ -12,14 +12,12 @@ pub const STATUS: Register = Register(0, 2, 2);
 // Each port's own.
 pub const FLAGS: Register = Register(0, 3, 14);
 
-// What the quantities are stored in: temperature, supply, then Rx power, Tx bias and Tx power, four channels each.
+// What the quantities are stored in: temperature, supply, then Rx power, Tx bias and Tx power, four channels each, one after the other.
 pub const MONITORS: Register = Register(0, 22, 57);
 
 pub const TEMPERATURE: Register = Register(0, 22, 23);
 
 pub const SUPPLY: Register = Register(0, 26, 27);
-
-pub const CHANNELS: Register = Register(0, 34, 57);
 
 pub const RX_POWER: Register = Register(0, 34, 41);
 

@@ -68,7 +68,7 @@ pub fn stored_at(number: u64) -> usize
         0 => address::index(address::place_of(registers::TEMPERATURE)),
         1 => address::index(address::place_of(registers::SUPPLY)),
         _ => {
-            address::index(address::place_of(registers::CHANNELS)) + 2 * (number as usize - 2) // one after the other
+            address::index(address::place_of(registers::RX_POWER)) + 2 * (number as usize - 2) // one after the other
         }
     }
 }

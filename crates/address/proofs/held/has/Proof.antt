@@ -1,9 +1,9 @@
--- `address::has` meets its contract.
+-- `address::held::has` meets its contract.
 -- Assumes nothing.
 use mathlib.Core.Path.{sym}
 use Rattle.laws.proofs.Tests.{covers-to}
-use Rattle.address.proofs.has.Statement.{statement}
-use Rattle.address.proofs.has.Tie as tie
+use Rattle.address.proofs.held.has.Statement.{statement}
+use Rattle.address.proofs.held.has.Tie as tie
 
 returns : tie.Need-returns
 returns c =

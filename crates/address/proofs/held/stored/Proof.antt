@@ -1,9 +1,9 @@
--- `address::stored` meets its contract.
+-- `address::held::stored` meets its contract.
 -- Assumes nothing.
 use borrow.Author.Tests.{lt-ltb}
 use borrow.Author.Needs.{needs}
-use Rattle.address.proofs.stored.Statement.{statement}
-use Rattle.address.proofs.stored.Tie as tie
+use Rattle.address.proofs.held.stored.Statement.{statement}
+use Rattle.address.proofs.held.stored.Tie as tie
 
 place-of-requires : tie.Need-place-of-requires
 place-of-requires c κs = search needs
