@@ -2,14 +2,18 @@
 // A lane is some addresses in a row whose bytes stand in a row; a run of addresses has a part of each lane, or none.
 ghost use mathlib.Core.Path.{_≡_};
 ghost use Prim.Native.Nat.{_<_, _≤_, _+_, _-_, max, min};
+ghost use lib.ListN.{length};
+ghost use Rattle.laws.specs.Tests.{if_then_else_, covers};
+ghost use Rattle.laws.specs.Lists.{at, patch};
 ghost use Rattle.model.specs.Map.{pageSize, paged, recordSize, stateSize, flags, lowMasks, highMasks, lowMaskOf, highMaskOf, pageAt};
+ghost use Rattle.moves.specs.Copied.{copied};
 ghost use Rattle.address.specs.Meaning.{lengthOf};
 use super::HostAddress;
 use super::HostRun;
 use super::Place;
-use super::PlaceRun;
 use super::Register;
 use super::registers;
+use moves::Part;
 
 // ---- lanes
 
@@ -85,66 +89,50 @@ pub fn page_byte_lane(base: Place) -> Lane
     laid(registers::SELECT, super::in_record(base, super::PAGE_IN))
 }
 
-// The later of two numbers.
-fn later(a: usize, b: usize) -> usize
-    ensures { λ r. ⌜ r ≡ max a b ⌝ }
-{
-    if a < b { b } else { a }
-}
-
-// The sooner of two numbers.
-fn sooner(a: usize, b: usize) -> usize
-    ensures { λ r. ⌜ r ≡ min a b ⌝ }
-{
-    if a < b { a } else { b }
-}
-
-// How many numbers there are from `a` on before `b`.
-fn between(a: usize, b: usize) -> usize
-    ensures { λ r. ⌜ r ≡ b - a ⌝ }
-{
-    if a < b { b - a } else { 0 }
-}
-
-// What of a run of addresses another run has: how many of the run come before it, and how many it is.
-pub struct Part {
-    pub skip: usize,
-    pub many: usize,
-}
+// ---- what of a run of addresses another run, or a lane, has
 
 pub fn part_of(run: HostRun, other: HostRun) -> Part
     requires { ⌜ (run .first .0 + run .many ≤ 256) × (other .first .0 + other .many ≤ 256) ⌝ }
     ensures { λ r. ⌜ (r .skip ≡ max (run .first .0) (other .first .0) - run .first .0) × (r .many ≡ min (run .first .0 + run .many) (other .first .0 + other .many) - max (run .first .0) (other .first .0)) ⌝ }
 {
-    let a = run.first.0 as usize;
-    let b = other.first.0 as usize;
-    let first = later(a, b);
-    Part {
-        skip: first - a,
-        many: between(first, sooner(a + run.many, b + other.many)),
-    }
+    moves::part_of(
+        run.first.0 as usize,
+        run.many,
+        other.first.0 as usize,
+        other.many,
+    )
 }
 
-// What of a run of addresses a lane has: how many of the run come before it, and the places of its bytes.
-pub struct Piece {
-    pub skip: usize,
-    pub places: PlaceRun,
-}
-
-pub fn piece_of(run: HostRun, lane: Lane) -> Piece
-    requires { ⌜ (run .first .0 + run .many ≤ 256) × (lane .hosts .first .0 + lane .hosts .many ≤ 256) × (lane .from .0 ≤ stateSize) ⌝ }
-    ensures { λ r. ⌜ (r .skip ≡ max (run .first .0) (lane .hosts .first .0) - run .first .0) × (r .places .first .0 ≡ lane .from .0 + (max (run .first .0) (lane .hosts .first .0) - lane .hosts .first .0)) × (r .places .many ≡ min (run .first .0 + run .many) (lane .hosts .first .0 + lane .hosts .many) - max (run .first .0) (lane .hosts .first .0)) ⌝ }
+// Puts what the lane has of a run into `out`, whose front stands for the run.
+pub fn put_lane(out: &mut [u8], run: HostRun, state: &[u8], lane: Lane)
+    requires { ⌜ (run .first .0 + run .many ≤ 256) × (run .many ≤ length (now out)) × (lane .hosts .first .0 + lane .hosts .many ≤ 256) × (lane .from .0 + lane .hosts .many ≤ length (now state)) ⌝ }
+    ensures { λ _. ⌜ now (out .exit) ≡ patch 0 (run .many) (λ j. copied (now (state .entry)) (lane .from .0) (lane .hosts .first .0) (lane .hosts .many) (run .first .0 + j) (at (now (out .entry)) j)) (now (out .entry)) ⌝ }
 {
     let hosts = lane.hosts;
-    let part = part_of(run, hosts);
-    let skip = part.skip;
-    let many = part.many;
-    let into = skip + run.first.0 as usize - hosts.first.0 as usize;
-    Piece {
-        skip,
-        places: PlaceRun {
-            first: Place(lane.from.0 + into),
-            many,
-        },
-    }
+    moves::copy_part(
+        out,
+        run.first.0 as usize,
+        run.many,
+        state,
+        lane.from.0,
+        hosts.first.0 as usize,
+        hosts.many,
+    );
+}
+
+// Empties what the lane has of a run.
+pub fn clear_lane(state: &mut [u8], run: HostRun, lane: Lane)
+    requires { ⌜ (run .first .0 + run .many ≤ 256) × (lane .hosts .first .0 + lane .hosts .many ≤ 256) × (lane .from .0 + lane .hosts .many ≤ length (now state)) ⌝ }
+    ensures { λ _. ⌜ now (state .exit) ≡ patch (lane .from .0) (lane .hosts .many) (λ k. if covers (run .first .0) (run .many) (lane .hosts .first .0 + k) then 0 else at (now (state .entry)) (lane .from .0 + k)) (now (state .entry)) ⌝ }
+{
+    let hosts = lane.hosts;
+    moves::fill_part(
+        state,
+        lane.from.0,
+        hosts.first.0 as usize,
+        hosts.many,
+        run.first.0 as usize,
+        run.many,
+        0,
+    );
 }

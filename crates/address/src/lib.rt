@@ -26,6 +26,7 @@ pub use held::place_of;
 pub use held::places_of;
 pub use held::stored;
 pub use lanes::Lane;
+pub use lanes::clear_lane;
 pub use lanes::flag_lane;
 pub use lanes::high_mask_lane;
 pub use lanes::low_mask_lane;
@@ -33,14 +34,12 @@ pub use lanes::lower_lane;
 pub use lanes::page_byte_lane;
 pub use lanes::page_lane;
 pub use lanes::part_of;
-pub use lanes::piece_of;
+pub use lanes::put_lane;
 
 // ---- sizes
 
-// How many host addresses there are, and where the selected page begins among them.
+// How many host addresses there are.
 pub const HOSTS: u64 = 256;
-
-pub const UPPER: u64 = 128;
 // Lower memory, and each page.
 pub const PAGE_LEN: usize = 128;
 // Lower memory and pages 00h to 03h.

@@ -18,13 +18,13 @@ use Rattle.model.proofs.Names.{done}
 use Rattle.model.proofs.Lawful.{lawful}
 
 pub reported-refused : (s : List ℕ) (c : Call) (r : ℕ) → r ≡ refusalOf s c → r ≢ 0 → Reported s c r 0 0 s
-reported-refused = Contracts.reported-refused document01 lawful
+reported-refused = Contracts.reported-refused document01
 
 pub read-refused : (s : List ℕ) (n a k : ℕ) (out : List ℕ) (r : ℕ) → r ≡ refusalOf s (read n a k out) → r ≢ 0 → ReadDone s n a k out r 0 s out
-read-refused = Contracts.read-refused document01 lawful
+read-refused = Contracts.read-refused document01
 
 pub write-refused : (s : List ℕ) (n a : ℕ) (vs : List ℕ) (r : ℕ) → r ≡ refusalOf s (write n a vs) → r ≢ 0 → WriteDone s n a vs r 0 s
-write-refused = Contracts.write-refused document01 lawful
+write-refused = Contracts.write-refused document01
 
 pub taken-after : (s : List ℕ) (c : Call) → refusalOf s c ≡ 0 → (t : List ℕ) → t ≡ bytesOf (done (stateOf s) c) → t ≡ after s c
 taken-after = Contracts.taken-after document01 lawful
@@ -37,15 +37,15 @@ taken-reported = Contracts.taken-reported document01 lawful
 
 pub reported-unique : {s : List ℕ} {c : Call} {r₁ r₂ x₁ x₂ y₁ y₂ : ℕ} {t₁ t₂ : List ℕ} → Reported s c r₁ x₁ y₁ t₁ → Reported s c r₂ x₂ y₂ t₂
     → (r₁ ≡ r₂) × (x₁ ≡ x₂) × (y₁ ≡ y₂) × (t₁ ≡ t₂)
-reported-unique = Contracts.reported-unique document01 lawful
+reported-unique = Contracts.reported-unique document01
 
 pub read-unique : {s : List ℕ} {n a k : ℕ} {out : List ℕ} {r₁ r₂ x₁ x₂ : ℕ} {t₁ t₂ o₁ o₂ : List ℕ} → ReadDone s n a k out r₁ x₁ t₁ o₁ → ReadDone s n a k out r₂ x₂ t₂ o₂
     → (r₁ ≡ r₂) × (x₁ ≡ x₂) × (t₁ ≡ t₂) × (o₁ ≡ o₂)
-read-unique = Contracts.read-unique document01 lawful
+read-unique = Contracts.read-unique document01
 
 pub write-unique : {s : List ℕ} {n a : ℕ} {vs : List ℕ} {r₁ r₂ x₁ x₂ : ℕ} {t₁ t₂ : List ℕ} → WriteDone s n a vs r₁ x₁ t₁ → WriteDone s n a vs r₂ x₂ t₂
     → (r₁ ≡ r₂) × (x₁ ≡ x₂) × (t₁ ≡ t₂)
-write-unique = Contracts.write-unique document01 lawful
+write-unique = Contracts.write-unique document01
 
 pub reported-is-step : {s : List ℕ} {c : Call} {r x y : ℕ} {t : List ℕ} → Reported s c r x y t → length s ≡ stateSize
     → (stateOf t ≡ step (stateOf s) c) × (answer (stateOf s) operator c .refusal ≡ r)

@@ -4,10 +4,6 @@ use Rattle.laws.specs.Words.{ℕ, _+_, _-_, List, at, eqb, if_then_else_, _to_,
 use Rattle.model.specs.Ports.{Places}
 use Rattle.model.specs.Map.{flags, lowMasks, flagOf, lowMaskOf, pageAt}
 
--- what address a reads where the bytes of s from place p on are copied for the m addresses from b on, and where else it would read v
-abbrev pub copied : List ℕ → ℕ → ℕ → ℕ → ℕ → ℕ → ℕ
-copied s p b m a v = if covers b m a then at s (p + (a - b)) else v
-
 -- what address a reads of the record o in lower memory, where else it would read v
 abbrev pub ownSeen : Places → ℕ → ℕ → ℕ
 ownSeen o a v =

@@ -6,40 +6,19 @@ ghost use mathlib.Core.Bool.{_&&_};
 ghost use Prim.Native.Nat.{_<_, _≤_, _+_};
 ghost use lib.Dec.{eqb};
 ghost use lib.ListN.{length};
-ghost use Rattle.laws.specs.Tests.{if_then_else_, firstOf, _to_, within};
+ghost use Rattle.laws.specs.Tests.{if_then_else_, _to_, within};
 ghost use Rattle.laws.specs.Lists.{at, patch};
 ghost use Rattle.model.specs.Ports.{read, caller};
 ghost use Rattle.model.specs.Map.{stateSize, recordSize, pageAt, base, flags, highMasks, highMaskOf, statusAt};
-ghost use Rattle.model.specs.Refusals.{readRows};
 ghost use Rattle.model.specs.Reading.{statusByte, seen, cleared};
 ghost use Rattle.model.specs.Bytes.{memoryOf, recordOf, refusalOf};
 ghost use Rattle.model.specs.Contracts.{ReadDone};
 ghost use Rattle.address.specs.Meaning.{storedAt};
-ghost use Rattle.module.specs.Own.{copied, ownSeen};
+ghost use Rattle.module.specs.Own.{ownSeen};
 use address::HostRun;
-use address::Lane;
 use address::Place;
 use address::registers;
-use record::Answer;
-
-// The most bytes that one read reads.
-const MOST: u64 = 128;
-
-// The refusals 4 to 6 of a read, or 0.
-fn run_refusal(address: u64, count: u64, room: usize) -> u8
-    ensures { λ r. ⌜ r ≡ firstOf (readRows address count room) ⌝ }
-{
-    if (count == 0) | (MOST < count) {
-        return 4;
-    }
-    if address::HOSTS - count < address {
-        return 5;
-    }
-    if room < count as usize {
-        return 6;
-    }
-    0
-}
+use both::Answer;
 
 // The refusals of a read, or 0.
 fn refusal_of(state: &[u8], port: u64, address: u64, count: u64, out: &[u8]) -> u8
@@ -49,36 +28,18 @@ fn refusal_of(state: &[u8], port: u64, address: u64, count: u64, out: &[u8]) -> 
     if first != 0 {
         return first;
     }
-    run_refusal(address, count, out.len())
+    both::read_refusal(address::HOSTS, address, count, out.len())
 }
 
 // ---- what is shown: the bytes of a run of addresses, at the front of `out`
-
-// Those of them that a lane has.
-fn put_lane(out: &mut [u8], run: HostRun, state: &[u8], lane: Lane)
-    requires { ⌜ (run .first .0 + run .many ≤ 256) × (run .many ≤ length (now out)) × (lane .hosts .first .0 + lane .hosts .many ≤ 256) × (lane .from .0 + lane .hosts .many ≤ length (now state)) × (length (now state) ≡ stateSize) ⌝ }
-    ensures { λ _. ⌜ now (out .exit) ≡ patch 0 (run .many) (λ j. copied (now (state .entry)) (lane .from .0) (lane .hosts .first .0) (lane .hosts .many) (run .first .0 + j) (at (now (out .entry)) j)) (now (out .entry)) ⌝ }
-{
-    let piece = address::piece_of(run, lane);
-    let many = piece.places.many;
-    if many != 0 {
-        moves::copy(
-            out,
-            piece.skip,
-            state,
-            address::index(piece.places.first),
-            many,
-        );
-    }
-}
 
 // The bytes of the memory, with `page` selected.
 fn put_memory(out: &mut [u8], run: HostRun, state: &[u8], page: u8)
     requires { ⌜ (length (now state) ≡ stateSize) × (page < 4) × (run .first .0 + run .many ≤ 256) × (run .many ≤ length (now out)) ⌝ }
     ensures { λ _. ⌜ now (out .exit) ≡ patch 0 (run .many) (λ j. at (now (state .entry)) (storedAt page (run .first .0 + j))) (now (out .entry)) ⌝ }
 {
-    put_lane(out, run, state, address::lower_lane());
-    put_lane(out, run, state, address::page_lane(page));
+    address::put_lane(out, run, state, address::lower_lane());
+    address::put_lane(out, run, state, address::page_lane(page));
 }
 
 // Over them, on page 03h, the masks 242 to 247 of the record at `base`.
@@ -87,7 +48,7 @@ fn put_high_masks(out: &mut [u8], run: HostRun, state: &[u8], base: Place, page:
     ensures { λ _. ⌜ now (out .exit) ≡ patch 0 (run .many) (λ j. if eqb page 3 && within highMasks (run .first .0 + j) then recordOf (now (state .entry)) (base .0) (highMaskOf (run .first .0 + j)) else at (now (out .entry)) j) (now (out .entry)) ⌝ }
 {
     if address::is_on(registers::HIGH_MASKS, page) {
-        put_lane(out, run, state, address::high_mask_lane(base));
+        address::put_lane(out, run, state, address::high_mask_lane(base));
     }
 }
 
@@ -121,9 +82,9 @@ fn put_own(out: &mut [u8], run: HostRun, state: &[u8], base: Place)
     ensures { λ _. ⌜ now (out .exit) ≡ patch 0 (run .many) (λ j. ownSeen (recordOf (now (state .entry)) (base .0)) (run .first .0 + j) (at (now (out .entry)) j)) (now (out .entry)) ⌝ }
 {
     put_blanks(out, run);
-    put_lane(out, run, state, address::page_byte_lane(base));
-    put_lane(out, run, state, address::low_mask_lane(base));
-    put_lane(out, run, state, address::flag_lane(base));
+    address::put_lane(out, run, state, address::page_byte_lane(base));
+    address::put_lane(out, run, state, address::low_mask_lane(base));
+    address::put_lane(out, run, state, address::flag_lane(base));
 }
 
 // What the port with the record at `base`, which selects `page`, sees at a run of addresses.

@@ -14,7 +14,7 @@ ghost use Rattle.address.specs.Meaning.{heldAt, lengthOf};
 use address::PlaceRun;
 use address::Register;
 use address::registers;
-use record::Answers;
+use both::Answers;
 
 // The refusals of a reset, or 0.
 fn refusal_of(state: &[u8], image: &[u8]) -> u8

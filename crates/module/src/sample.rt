@@ -13,7 +13,7 @@ ghost use Rattle.model.specs.Contracts.{Reported};
 ghost use Rattle.address.specs.Meaning.{heldAt, lengthOf};
 use address::Register;
 use address::registers;
-use record::Answers;
+use both::Answers;
 
 // The refusals of a sample, or 0.
 fn refusal_of(state: &[u8], x: &[u8]) -> u8

@@ -14,10 +14,7 @@ ghost use Rattle.model.specs.Contracts.{WriteDone};
 use address::HostAddress;
 use address::HostRun;
 use address::Slot;
-use record::Answer;
-
-// The most bytes that one write writes.
-const MOST: usize = 4;
+use both::Answer;
 
 // ---- refusals
 
@@ -66,14 +63,9 @@ fn run_refusal(state: &[u8], port: u64, address: u64, n: usize) -> u8
     requires { ⌜ sound (memoryOf (now state)) (recordOf (now state) (base (caller port))) ≡ true ⌝ }
     ensures { λ r. ⌜ r ≡ firstOf (writeRows (stateOf (now (state .entry))) port address n) ⌝ }
 {
-    if (n == 0) | (MOST < n) {
-        return 4;
-    }
-    let count = n as u64;
-    if (address::HOSTS - count < address)
-        | ((address < address::UPPER) & (address::UPPER - count < address))
-    {
-        return 5;
+    let first = both::write_refusal(address::HOSTS, address, n);
+    if first != 0 {
+        return first;
     }
     let run = HostRun {
         first: address::host(address as u8),

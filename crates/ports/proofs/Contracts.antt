@@ -16,7 +16,7 @@ use Rattle.ports.proofs.Lawful.{Lawful}
 use Rattle.ports.proofs.Steps.{answer-long, state-after}
 use Rattle.ports.proofs.Answers.{answer-refused, refused-changes-nothing, count-reported}
 
-module _ {Image : Type 0} (M : Module Image) (L : Lawful M) where
+module _ {Image : Type 0} (M : Module Image) where
   -- ---- a refused call
 
   pub reported-refused : (s : List ℕ) (c : CallOf Image) (r : ℕ) → r ≡ refusalOf M s c → r ≢ 0 → Reported M s c r 0 0 s
@@ -34,22 +34,6 @@ module _ {Image : Type 0} (M : Module Image) (L : Lawful M) where
       let q = refused-changes-nothing M s (write n a vs) (λ z. h (e ∙ z)) in
       record { refusal-is = e; count-is = rw (q .1 (caller n)); state-is = sym (q .0) }
 
-  -- ---- an accepted call, whose bytes t are those of the state that `done` leaves
-
-  module _ (s : List ℕ) (c : CallOf Image) (taken : refusalOf M s c ≡ 0) (t : List ℕ) (left : t ≡ bytesOf M (done M (stateOf M s) c)) where
-    pub taken-after : t ≡ after M s c
-    unfolding after
-    taken-after = rw (eq-eqb (refusalOf M s c) 0 taken) left
-
-    -- the count of the record that is left
-    pub taken-count : (p : Port) (n : ℕ) → n ≡ M .count (recordOf M t (base M p)) → n ≡ answerOf M s p c .counted
-    unfolding stateOf
-    taken-count p n e = e ∙ ap (λ (l : List ℕ). M .count (recordOf M l (base M p))) taken-after ∙ sym (count-reported M L s p c taken)
-
-    -- a reset or a sample, from the counts of both records that are left
-    pub taken-reported : (x y : ℕ) → x ≡ M .count (recordOf M t (base M operator)) → y ≡ M .count (recordOf M t (base M recorder)) → Reported M s c 0 x y t
-    taken-reported x y p q = record { refusal-is = sym taken; operator-is = taken-count operator x p; recorder-is = taken-count recorder y q; state-is = taken-after }
-
   -- ---- any two outcomes that a contract allows are equal
 
   pub reported-unique : {s : List ℕ} {c : CallOf Image} {r₁ r₂ x₁ x₂ y₁ y₂ : ℕ} {t₁ t₂ : List ℕ} → Reported M s c r₁ x₁ y₁ t₁ → Reported M s c r₂ x₂ y₂ t₂
@@ -65,6 +49,23 @@ module _ {Image : Type 0} (M : Module Image) (L : Lawful M) where
   pub write-unique : {s : List ℕ} {n a : ℕ} {vs : List ℕ} {r₁ r₂ x₁ x₂ : ℕ} {t₁ t₂ : List ℕ} → WriteDone M s n a vs r₁ x₁ t₁ → WriteDone M s n a vs r₂ x₂ t₂
       → (r₁ ≡ r₂) × (x₁ ≡ x₂) × (t₁ ≡ t₂)
   write-unique p q = (p .refusal-is ∙ sym (q .refusal-is), p .count-is ∙ sym (q .count-is), p .state-is ∙ sym (q .state-is))
+
+module _ {Image : Type 0} (M : Module Image) (L : Lawful M) where
+  -- ---- an accepted call, whose bytes t are those of the state that `done` leaves
+
+  module _ (s : List ℕ) (c : CallOf Image) (taken : refusalOf M s c ≡ 0) (t : List ℕ) (left : t ≡ bytesOf M (done M (stateOf M s) c)) where
+    pub taken-after : t ≡ after M s c
+    unfolding after
+    taken-after = rw (eq-eqb (refusalOf M s c) 0 taken) left
+
+    -- the count of the record that is left
+    pub taken-count : (p : Port) (n : ℕ) → n ≡ M .count (recordOf M t (base M p)) → n ≡ answerOf M s p c .counted
+    unfolding stateOf
+    taken-count p n e = e ∙ ap (λ (l : List ℕ). M .count (recordOf M l (base M p))) taken-after ∙ sym (count-reported M L s p c taken)
+
+    -- a reset or a sample, from the counts of both records that are left
+    pub taken-reported : (x y : ℕ) → x ≡ M .count (recordOf M t (base M operator)) → y ≡ M .count (recordOf M t (base M recorder)) → Reported M s c 0 x y t
+    taken-reported x y p q = record { refusal-is = sym taken; operator-is = taken-count operator x p; recorder-is = taken-count recorder y q; state-is = taken-after }
 
   -- ---- on as many bytes as a state has the outcome is the step and the answer on states
 

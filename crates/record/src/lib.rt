@@ -1,40 +1,23 @@
 // A port's record in the state: soundness, the count, clearing, raising, entering a mask or a page.
 // Proved: each function gives the definition that its contract cites (document 01, "The 688 bytes", "Reading", "Writing").
 ghost use mathlib.Core.Path.{_≡_};
-ghost use mathlib.Core.List.{_∷_, map};
-ghost use Prim.Native.Nat.{_<_, _≤_, _+_, _*_};
-ghost use lib.Bits.{bitOr, bitAnd, bitXor};
-ghost use lib.Count.{ones};
+ghost use mathlib.Core.List.{_∷_};
+ghost use Prim.Native.Nat.{_<_, _≤_, _+_};
+ghost use lib.Bits.{bitOr};
 ghost use lib.ListN.{length, set};
 ghost use Rattle.laws.specs.Tests.{firstOf};
-ghost use Rattle.laws.specs.Lists.{at, patch, sum};
+ghost use Rattle.laws.specs.Lists.{at, patch};
 ghost use Rattle.model.specs.Map.{recordSize, stateSize, pageAt, flags, supported, sound};
 ghost use Rattle.model.specs.Refusals.{wrongSize, portRows};
 ghost use Rattle.model.specs.Reading.{cleared, statusByte};
 ghost use Rattle.model.specs.Writing.{written};
-ghost use Rattle.model.specs.Interrupt.{countPair, count};
-ghost use Rattle.record.specs.Beside.{beside};
+ghost use Rattle.model.specs.Interrupt.{count};
 ghost use Rattle.model.specs.Bytes.{memoryOf, recordOf, stateOf};
 ghost use Rattle.address.specs.Meaning.{means};
 use address::Class;
 use address::HostRun;
 use address::Place;
 use address::registers;
-
-// ---- answers
-
-// What a read or a write answers: its refusal or 0, and the calling port's count after it.
-pub struct Answer {
-    pub refusal: u8,
-    pub count: u8,
-}
-
-// What a reset or a sample answers: its refusal or 0, and both ports' counts after it.
-pub struct Answers {
-    pub refusal: u8,
-    pub operator: u8,
-    pub recorder: u8,
-}
 
 // Byte `k` of the record at `base`.
 fn own(state: &[u8], base: Place, k: usize) -> u8
@@ -96,7 +79,7 @@ pub fn port_refusal(state: &[u8], port: u64) -> u8
     if state.len() != address::STATE_LEN {
         return 1;
     }
-    if (port != 1) & (port != 2) {
+    if both::is_nobody(port) {
         return 2;
     }
     if is_sound(state, address::record_of(port)) {
@@ -107,40 +90,22 @@ pub fn port_refusal(state: &[u8], port: u64) -> u8
 
 // ---- the count
 
-// The ones of a flag byte with its masked bits taken away.
-fn let_by(flags: u8, mask: u8) -> u8
-    ensures { λ r. ⌜ (r ≡ ones (bitXor flags (bitAnd flags mask))) × (r ≤ 8) ⌝ }
-{
-    u8::count_ones(flags ^ (flags & mask)) as u8
-}
-
-// The count over `n` pairs side by side: flag bytes from `f` on, mask bytes from `m` on.
-fn count_beside(state: &[u8], base: Place, n: usize, f: usize, m: usize) -> u8
-    requires { ⌜ (length (now state) ≡ stateSize) × (base .0 + recordSize ≤ stateSize) × (f + n ≤ recordSize) × (m + n ≤ recordSize) ⌝ }
-    ensures { λ r. ⌜ (r ≡ sum (map (countPair (recordOf (now (state .entry)) (base .0))) (beside n f m))) × (r ≤ 8 * n) ⌝ }
-{
-    let mut c: u8 = 0;
-    for j in 0..n {
-        c += let_by(own(state, base, f + j), own(state, base, m + j));
-    }
-    c
-}
-
 // The raised flags that the masks let through: added over eleven pairs.
 pub fn count_of(state: &[u8], base: Place) -> u8
     requires { ⌜ (length (now state) ≡ stateSize) × (base .0 + recordSize ≤ stateSize) ⌝ }
     ensures { λ r. ⌜ r ≡ count (recordOf (now (state .entry)) (base .0)) ⌝ }
 {
-    count_beside(
+    let first = address::index(base);
+    both::count_beside(
         state,
-        base,
+        first,
         address::LOW_MASKS_LEN,
         address::FLAGS_IN,
         address::LOW_MASKS_IN,
     )
-        + count_beside(
+        + both::count_beside(
             state,
-            base,
+            first,
             address::HIGH_MASKS_LEN,
             address::CHANNEL_FLAGS_IN,
             address::HIGH_MASKS_IN,
@@ -166,11 +131,7 @@ pub fn clear(state: &mut [u8], base: Place, run: HostRun)
     requires { ⌜ (length (now state) ≡ stateSize) × (base .0 + recordSize ≤ stateSize) × (run .first .0 + run .many ≤ 256) ⌝ }
     ensures { λ _. ⌜ now (state .exit) ≡ patch (base .0) (flags .many) (cleared (run .first .0) (run .many) (recordOf (now (state .entry)) (base .0))) (now (state .entry)) ⌝ }
 {
-    let piece = address::piece_of(run, address::flag_lane(base));
-    let many = piece.places.many;
-    if many != 0 {
-        moves::fill(state, address::index(piece.places.first), many, 0);
-    }
+    address::clear_lane(state, run, address::flag_lane(base));
 }
 
 // Raises the conditions `cs` of the twelve flag bytes, a record's first.
@@ -178,10 +139,7 @@ pub fn raise(state: &mut [u8], base: Place, cs: [u8; 12])
     requires { ⌜ (length (now state) ≡ stateSize) × (base .0 + recordSize ≤ stateSize) ⌝ }
     ensures { λ _. ⌜ now (state .exit) ≡ patch (base .0) (flags .many) (λ k. bitOr (at (now (state .entry)) (base .0 + k)) (at cs k)) (now (state .entry)) ⌝ }
 {
-    for k in 0..address::FLAGS_LEN {
-        let i = address::index(address::in_record(base, k));
-        state[i] = state[i] | cs[k];
-    }
+    moves::join(state, address::index(base), &cs, address::FLAGS_LEN);
 }
 
 // ---- writing

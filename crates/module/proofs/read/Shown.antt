@@ -10,16 +10,19 @@ use native.Mathlib.Omega.{arith}
 use lib.Dec.{ltb, eqb}
 use lib.ListN.{length, set}
 use borrow.Author.Tests.{lt-ltb, ltb-true, ltb-false, eq-eqb, ne-eqb, eqb-true, eqb-false}
-use Rattle.laws.specs.Tests.{if_then_else_, Run, _to_, within}
+use Rattle.laws.specs.Tests.{if_then_else_, _to_, within}
 use Rattle.laws.specs.Lists.{at, patch}
-use Rattle.laws.proofs.Tests.{case, covers-in, covers-below, covers-true, covers-one}
+use Rattle.laws.proofs.Tests.{case, covers-in, covers-below, covers-one}
 use Rattle.laws.proofs.Lists.{patch-same}
 use Rattle.laws.proofs.Fronts.{front-over, front-four, front-self, front-set}
 use Rattle.model.specs.Map.{pageSize, paged, memorySize, statusAt, flags, lowMasks, highMasks, flagOf, lowMaskOf, highMaskOf, pageAt, recordSize, seat}
 use Rattle.model.specs.Reading.{statusByte, look, seen}
+use Rattle.model.specs.Module.{document01}
 use Rattle.model.specs.Bytes.{memoryOf, recordOf}
 use Rattle.address.specs.Meaning.{storedAt}
-use Rattle.module.specs.Own.{copied, ownSeen}
+use Rattle.moves.specs.Copied.{copied}
+use Rattle.both.proofs.Laws.{own-byte}
+use Rattle.module.specs.Own.{ownSeen}
 
 -- ---- one after the other: the n addresses from a on, at the front of out
 
@@ -60,19 +63,12 @@ module _ (out : List ℕ) (a n : ℕ) (room : n ≤ length out) where
         rw (covers-in 128 128 (a + j) v (omega arith), u, q)))
 
     module _ (b : ℕ) where
-      -- bytes of the record at b, of which address i has byte d
-      own-byte : (r : Run) (p d i : ℕ) {x y : ℕ} → (r .first ≤ i → i < r .first + r .many → (p + (i - r .first) ≡ b + d) × (d < recordSize)) → x ≡ y
-          → copied s p (r .first) (r .many) i x ≡ (if within r i then recordOf s b d else y)
-      own-byte r p d i f e = case (within r i)
-          (λ t. let c = covers-true (r .first) (r .many) i t in let k = f (c .0) (c .1) in rw (t, k .0, lt-ltb d recordSize (k .1)))
-          (λ t. rw t e)
-
       -- the masks of page 03h
       pub masks-shown : {t : List ℕ}
           → t ≡ patch 0 n (λ j. copied s (b + highMaskOf (highMasks .first)) (highMasks .first) (highMasks .many) (a + j) (at out j)) out
           → t ≡ patch 0 n (λ j. if within highMasks (a + j) then recordOf s b (highMaskOf (a + j)) else at out j) out
       masks-shown d = d ∙ patch-same 0 n _ _ out
-          (λ j l. own-byte highMasks (b + highMaskOf (highMasks .first)) (highMaskOf (a + j)) (a + j) (λ u v. (omega arith, omega arith)) refl)
+          (λ j l. own-byte document01 s b highMasks (b + highMaskOf (highMasks .first)) (highMaskOf (a + j)) (a + j) (λ u v. (omega arith, omega arith)) refl)
 
       -- what is the port's own in lower memory
       pub own-shown : {o₁ o₂ o₃ t : List ℕ}
@@ -84,9 +80,9 @@ module _ (out : List ℕ) (a n : ℕ) (room : n ≤ length out) where
       own-shown e₁ e₂ e₃ e₄ = front-four n out room e₁ e₂ e₃ e₄ (λ j l x₁ x₂ x₃.
           let i : ℕ = a + j in
           rw (x₃, x₂, x₁, ← covers-one 127 i)
-          (own-byte flags b (flagOf i) i (λ u v. (omega arith, omega arith))
-          (own-byte lowMasks (b + lowMaskOf (lowMasks .first)) (lowMaskOf i) i (λ u v. (omega arith, omega arith))
-          (own-byte (127 to 127) (b + pageAt) pageAt i (λ u v. (omega arith, omega arith)) refl))))
+          (own-byte document01 s b flags b (flagOf i) i (λ u v. (omega arith, omega arith))
+          (own-byte document01 s b lowMasks (b + lowMaskOf (lowMasks .first)) (lowMaskOf i) i (λ u v. (omega arith, omega arith))
+          (own-byte document01 s b (127 to 127) (b + pageAt) pageAt i (λ u v. (omega arith, omega arith)) refl))))
 
 -- ---- all together
 

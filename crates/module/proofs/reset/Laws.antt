@@ -1,33 +1,32 @@
 -- What a reset leaves, place by place: below 640 the runs that are brought, emptied and set, laid over each other, are the model's fresh
 -- memory; above it both records are 0, so that their counts are too.
 -- Assumes nothing.
-use mathlib.Core.Path.{_≡_, refl, sym, ap, _∙_, fun-ext}
+use mathlib.Core.Path.{_≡_, refl, sym, ap, _∙_}
 use mathlib.Core.Bool.{not}
 use mathlib.Core.List.{List, [], _∷_}
 use Prim.Native.Nat.{ℕ, _+_, _*_, _≤_, _<_}
 use native.Mathlib.Omega.{arith}
-use lib.Dec.{ltb}
 use lib.ListN.{length, set}
-use borrow.Author.Tests.{ltb-true}
 use Rattle.laws.specs.Tests.{if_then_else_, Run, _to_}
 use Rattle.laws.specs.Lists.{at, patch, sum}
 use Rattle.laws.specs.Bits.{bit}
-use Rattle.laws.proofs.Tests.{case, if-not, covers-in}
+use Rattle.laws.proofs.Tests.{if-not, covers-in}
 use Rattle.laws.proofs.Lists.{patch-length, patch-at, patch-below}
 use Rattle.laws.proofs.Fronts.{front-in, front-over, front-set}
 use Rattle.laws.proofs.Runs.{overlaid, overlaid-front}
 use Rattle.ports.specs.Effects
 use Rattle.ports.specs.Interrupt
-use Rattle.model.specs.Ports.{Port, operator, recorder, reset}
+use Rattle.ports.proofs.Taken
+use Rattle.model.specs.Ports.{Port, reset}
 use Rattle.model.specs.Map.{memorySize, recordSize, stateSize, base, statusAt}
 use Rattle.model.specs.Reset.{emptied, inPage02, fresh}
-use Rattle.model.specs.Interrupt.{count}
-use Rattle.model.specs.Bytes.{stateOf, recordOf, bytesOf, refusalOf}
+use Rattle.model.specs.Module.{document01}
+use Rattle.model.specs.Bytes.{stateOf, bytesOf, refusalOf}
 use Rattle.model.specs.Contracts.{Reported}
 use Rattle.model.proofs.Names.{done}
 use Rattle.model.proofs.Bytes.{base-fits, bytes-by-part, memory-at}
 use Rattle.model.proofs.Begun.{taken-size, begun-image}
-use Rattle.model.proofs.Contracts.{taken-reported}
+use Rattle.model.proofs.Lawful.{lawful}
 
 -- an accepted reset is on 688 bytes, with an image of 640
 pub reset-sizes : (s img : List ℕ) → refusalOf s (reset img) ≡ 0 → (length s ≡ stateSize) × (length img ≡ memorySize)
@@ -93,12 +92,5 @@ module _ (s img : List ℕ) (taken : refusalOf s (reset img) ≡ 0) (t u : List 
       bytes-by-part (done (stateOf s) (reset img)) t (ap length et ∙ patch-length memorySize (2 * recordSize) (λ j. 0) u ∙ long-u)
       (λ i h. memory-is i h ∙ sym (ap (fresh img i) (memory-at s i h))) record-is
 
-  -- the counts of records that are all 0
-  none : (p : Port) → 0 ≡ count (recordOf t (base p))
-  unfolding Interrupt.countOf sum
-  none p =
-      let e : recordOf t (base p) ≡ (λ k. 0) = fun-ext (λ k. case (ltb k recordSize) (λ q. rw q (record-is p k (ltb-true k recordSize q))) (λ q. rw q)) in
-      sym (ap count e)
-
   pub reset-done : Reported s (reset img) 0 0 0 t
-  reset-done = taken-reported s (reset img) taken t bytes-are 0 0 (none operator) (none recorder)
+  reset-done = Taken.reset-done document01 lawful s img taken (unfold Interrupt.countOf sum in refl) t bytes-are

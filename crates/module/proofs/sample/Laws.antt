@@ -2,49 +2,33 @@
 -- it the flag bytes of both records are raised; so the bytes are the model's.
 -- Assumes nothing.
 use mathlib.Core.Path.{_≡_, refl, sym, ap, _∙_}
-use mathlib.Core.Bool.{Bool, not, _||_, and-true, and-false}
+use mathlib.Core.Bool.{and-true, and-false}
 use mathlib.Core.List.{List, [], _∷_}
 use Prim.Native.Nat.{ℕ, _+_, _-_, _*_, _%_, _≤_, _<_}
 use native.Mathlib.Omega.{arith}
 use lib.Bits.{bitOr}
 use lib.Dec.{ltb, eqb, lit<}
 use lib.ListN.{length, set, length-set}
-use borrow.Author.Tests.{eqb-true, ltb-true, ltb-false, not-true, not-false}
+use borrow.Author.Tests.{eqb-true, ltb-true, ltb-false}
 use Rattle.laws.specs.Tests.{if_then_else_}
 use Rattle.laws.specs.Lists.{at, table, patch}
-use Rattle.laws.proofs.Tests.{case, and-left, and-right}
-use Rattle.laws.proofs.Rows.{first-none}
+use Rattle.laws.proofs.Tests.{case}
 use Rattle.laws.proofs.Lists.{table-at, patch-length, patch-at, patch-in, patch-above, patch-else, at-set}
 use Rattle.laws.proofs.Fronts.{front-in, is-front}
 use Rattle.ports.specs.Bytes
 use Rattle.ports.specs.Effects
-use Rattle.ports.specs.Modules
+use Rattle.ports.proofs.Taken.{sample-sizes}
 use Rattle.model.specs.Ports.{Port, operator, recorder, Places, sample}
-use Rattle.model.specs.Map.{memorySize, recordSize, stateSize, base, statusAt, flags, sound}
-use Rattle.model.specs.Samples.{Quantity, quantities, sampleSize, offered, conds, storedOf, stored, raised}
+use Rattle.model.specs.Map.{memorySize, recordSize, stateSize, base, statusAt, flags}
+use Rattle.model.specs.Samples.{Quantity, quantities, offered, conds, storedOf, stored, raised}
 use Rattle.model.specs.Interrupt.{count}
-use Rattle.model.specs.Bytes.{memoryOf, recordOf, stateOf, rowsOf, refusalOf}
+use Rattle.model.specs.Module.{document01}
+use Rattle.model.specs.Bytes.{memoryOf, recordOf, stateOf, refusalOf}
 use Rattle.model.specs.Contracts.{Reported}
-use Rattle.model.proofs.Names.{rows, done}
+use Rattle.model.proofs.Names.{done}
 use Rattle.model.proofs.Lasting.{stored-high}
 use Rattle.model.proofs.Bytes.{base-fits, bytes-by-part, memory-at, record-at}
 use Rattle.model.proofs.Contracts.{taken-reported}
-
--- ---- refusals
-
--- on 688 bytes, with the soundness of the records that begin at i and j, as the code finds it
-pub sample-refusal : (s x : List ℕ) {i j : ℕ} {a b : Bool} → length s ≡ stateSize → i ≡ base operator → j ≡ base recorder
-    → a ≡ sound (memoryOf s) (recordOf s i) → b ≡ sound (memoryOf s) (recordOf s j)
-    → refusalOf s (sample x) ≡ (if not a || not b then 3 else (if not (eqb (length x) sampleSize) then 8 else 0))
-unfolding Bytes.refusalOf Bytes.rowsOf Modules.rows Bytes.stateOf
-sample-refusal s x e ei ej ea eb = rw (e, ea, eb, ei, ej)
-
--- an accepted sample is on 688 bytes, and has 31
-pub sample-sizes : (s x : List ℕ) → refusalOf s (sample x) ≡ 0 → (length s ≡ stateSize) × (length x ≡ sampleSize)
-unfolding Bytes.refusalOf Bytes.rowsOf Modules.rows
-sample-sizes s x e =
-    let n = first-none (rowsOf s (sample x)) refl .0 e in
-    search (and-left, and-right, eqb-true, not-true, not-false)
 
 -- ---- the memory
 
@@ -118,7 +102,7 @@ module _ (s x : List ℕ) (taken : refusalOf s (sample x) ≡ 0) (cs : List ℕ)
     (t₁ t₂ t₃ : List ℕ) (e₁ : t₁ ≡ patch 0 memorySize (λ i. stored (memoryOf s) x i (at s i)) s)
     (e₂ : t₂ ≡ raising cs (base operator) t₁) (e₃ : t₃ ≡ raising cs (base recorder) t₂) where
   l₀ : length s ≡ stateSize
-  l₀ = sample-sizes s x taken .0
+  l₀ = sample-sizes document01 s x taken .0
 
   l₁ : length t₁ ≡ stateSize
   l₁ = ap length e₁ ∙ patch-length 0 memorySize (λ i. stored (memoryOf s) x i (at s i)) s ∙ l₀

@@ -41,21 +41,6 @@ use Rattle.model.proofs.Contracts.{taken-after, taken-count}
 
 -- ---- refusals
 
--- the run of a write that is of 1 to 4 bytes; refusal 5 as the code tests it
-module _ (a n : ℕ) (counted : miscounted 4 n ≡ false) where
-  pub few : n ≤ 4
-  few = ltb-false 4 n (or-right (eqb n 0) (ltb 4 n) counted)
-
-  pub past-end : (beyond a n || across a n) ≡ (ltb (256 - n) a || (ltb a 128 && ltb (128 - n) a))
-  past-end = let h = few in rw (sub-ltb 256 a n (omega arith), sub-ltb 128 a n (omega arith))
-
-  pub run-fits : (ltb (256 - n) a || (ltb a 128 && ltb (128 - n) a)) ≡ false → a + n ≤ 256
-  run-fits e = ltb-false 256 (a + n) (or-left (beyond a n) (across a n) (past-end ∙ e))
-
-  -- its first address is one
-  pub first-fits : (ltb (256 - n) a || (ltb a 128 && ltb (128 - n) a)) ≡ false → a < 256
-  first-fits e = let l = run-fits e in let d = eqb-false n 0 (or-left (eqb n 0) (ltb 4 n) counted) in omega arith
-
 -- one address more, from the last to the first
 pub mine-next : (g a n k : ℕ) → 0 < k → k ≤ n → (isMine (seat g (a + (k - 1))) && allMine g (a + k) (n - k)) ≡ allMine g (a + (k - 1)) (n - (k - 1))
 unfolding allMine

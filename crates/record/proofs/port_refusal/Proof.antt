@@ -11,8 +11,11 @@ use Rattle.record.proofs.port_refusal.Tie as tie
 returns : tie.Need-returns
 returns c = rw (ne-eqb _ _ (c .if1 .taken))
 
+is-nobody-requires : tie.Need-is-nobody-requires
+is-nobody-requires c κs = search needs
+
 returns-2 : tie.Need-returns-2
-returns-2 c = rw (eq-eqb _ _ (c .before .if1 .left), c .if2 .taken)
+returns-2 c = let n = c .before in rw (eq-eqb _ _ (n .before .if1 .left), sym (n .is-nobody .ensures) ∙ c .if2 .taken)
 
 record-of-requires : tie.Need-record-of-requires
 record-of-requires c κs = search needs
@@ -24,14 +27,16 @@ returns-3 : tie.Need-returns-3
 unfolding Bytes.stateOf
 returns-3 c =
     let x = c .before .before in
-    rw (eq-eqb _ _ (x .before .before .if1 .left), x .before .if2 .left, ← x .record-of .ensures .0, sym (c .before .is-sound .ensures) ∙ c .if3 .taken)
+    let n = x .before .before in
+    rw (eq-eqb _ _ (n .before .if1 .left), sym (n .is-nobody .ensures) ∙ x .before .if2 .left, ← x .record-of .ensures .0, sym (c .before .is-sound .ensures) ∙ c .if3 .taken)
 
 returns-4 : tie.Need-returns-4
 unfolding Bytes.stateOf
 returns-4 c =
     let x = c .before .before in
-    rw (eq-eqb _ _ (x .before .before .if1 .left), x .before .if2 .left, ← x .record-of .ensures .0, sym (c .before .is-sound .ensures) ∙ c .if3 .left)
+    let n = x .before .before in
+    rw (eq-eqb _ _ (n .before .if1 .left), sym (n .is-nobody .ensures) ∙ x .before .if2 .left, ← x .record-of .ensures .0, sym (c .before .is-sound .ensures) ∙ c .if3 .left)
 
 pub port-refusal-spec : {M : Type 1} → statement M
 port-refusal-spec =
-    tie.close (tie.spec returns returns-2 record-of-requires is-sound-requires returns-3 returns-4)
+    tie.close (tie.spec returns is-nobody-requires returns-2 record-of-requires is-sound-requires returns-3 returns-4)

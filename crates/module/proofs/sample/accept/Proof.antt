@@ -1,12 +1,14 @@
 -- `module::sample::accept` meets its contract.
 -- Assumes nothing.
 use borrow.Author.Needs.{needs}
-use Rattle.module.proofs.sample.Laws.{sample-sizes, sample-done}
+use Rattle.ports.proofs.Taken.{sample-sizes}
+use Rattle.model.specs.Module.{document01}
+use Rattle.module.proofs.sample.Laws.{sample-done}
 use Rattle.module.proofs.sample.accept.Statement.{statement}
 use Rattle.module.proofs.sample.accept.Tie as tie
 
 conditions-requires : tie.Need-conditions-requires
-conditions-requires c κs = search (needs, sample-sizes)
+conditions-requires c κs = search (needs, sample-sizes document01)
 
 record-of-requires : tie.Need-record-of-requires
 record-of-requires c κs = search needs
@@ -15,19 +17,19 @@ record-of-requires-2 : tie.Need-record-of-requires-2
 record-of-requires-2 c κs = search needs
 
 store-requires : tie.Need-store-requires
-store-requires c κs = search (needs, sample-sizes)
+store-requires c κs = search (needs, sample-sizes document01)
 
 raise-requires : tie.Need-raise-requires
-raise-requires c κs = search (needs, sample-sizes _ _ (c .before .before .before .before .before .before .before .before .before .before .before .pre))
+raise-requires c κs = search (needs, sample-sizes document01 _ _ (c .before .before .before .before .before .before .before .before .before .before .before .pre))
 
 raise-requires-2 : tie.Need-raise-requires-2
-raise-requires-2 c κs = search (needs, sample-sizes _ _ (c .before .before .before .before .before .before .before .before .before .before .before .before .before .before .before .pre))
+raise-requires-2 c κs = search (needs, sample-sizes document01 _ _ (c .before .before .before .before .before .before .before .before .before .before .before .before .before .before .before .pre))
 
 count-of-requires : tie.Need-count-of-requires
-count-of-requires c κs = search (needs, sample-sizes _ _ (c .before .before .before .before .before .before .before .before .before .before .before .before .before .before .before .before .before .before .before .pre))
+count-of-requires c κs = search (needs, sample-sizes document01 _ _ (c .before .before .before .before .before .before .before .before .before .before .before .before .before .before .before .before .before .before .before .pre))
 
 count-of-requires-2 : tie.Need-count-of-requires-2
-count-of-requires-2 c κs = search (needs, sample-sizes _ _ (c .before .before .before .before .before .before .before .before .before .before .before .before .before .before .before .before .before .before .before .before .before .pre))
+count-of-requires-2 c κs = search (needs, sample-sizes document01 _ _ (c .before .before .before .before .before .before .before .before .before .before .before .before .before .before .before .before .before .before .before .before .before .pre))
 
 same-length : tie.Need-same-length
 same-length c = search needs

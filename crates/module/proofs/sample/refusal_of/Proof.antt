@@ -4,7 +4,8 @@ use borrow.Author.Tests.{eq-eqb, ne-eqb}
 use borrow.Author.Needs.{needs}
 use Rattle.ports.specs.Bytes
 use Rattle.model.specs.Bytes.{rowsOf, refusalOf}
-use Rattle.module.proofs.sample.Laws.{sample-refusal}
+use Rattle.ports.proofs.Taken.{sample-refusal}
+use Rattle.model.specs.Module.{document01}
 use Rattle.module.proofs.sample.refusal_of.Statement.{statement}
 use Rattle.module.proofs.sample.refusal_of.Tie as tie
 
@@ -29,21 +30,21 @@ returns-2 c =
     let b = c .before in
     let a = b .before .before in
     let e = a .before .before in
-    rw (sample-refusal _ _ (e .if1 .left) (a .before .record-of .ensures .0) (b .before .record-of2 .ensures .0) (a .is-sound .ensures) (b .is-sound2 .ensures), c .if2 .taken)
+    rw (sample-refusal document01 _ _ (e .if1 .left) (a .before .record-of .ensures .0) (b .before .record-of2 .ensures .0) (a .is-sound .ensures) (b .is-sound2 .ensures), c .if2 .taken)
 
 returns-3 : tie.Need-returns-3
 returns-3 c =
     let b = c .before .before in
     let a = b .before .before in
     let e = a .before .before in
-    rw (sample-refusal _ _ (e .if1 .left) (a .before .record-of .ensures .0) (b .before .record-of2 .ensures .0) (a .is-sound .ensures) (b .is-sound2 .ensures), c .before .if2 .left, ne-eqb _ _ (c .if3 .taken))
+    rw (sample-refusal document01 _ _ (e .if1 .left) (a .before .record-of .ensures .0) (b .before .record-of2 .ensures .0) (a .is-sound .ensures) (b .is-sound2 .ensures), c .before .if2 .left, ne-eqb _ _ (c .if3 .taken))
 
 returns-4 : tie.Need-returns-4
 returns-4 c =
     let b = c .before .before in
     let a = b .before .before in
     let e = a .before .before in
-    rw (sample-refusal _ _ (e .if1 .left) (a .before .record-of .ensures .0) (b .before .record-of2 .ensures .0) (a .is-sound .ensures) (b .is-sound2 .ensures), c .before .if2 .left, eq-eqb _ _ (c .if3 .left))
+    rw (sample-refusal document01 _ _ (e .if1 .left) (a .before .record-of .ensures .0) (b .before .record-of2 .ensures .0) (a .is-sound .ensures) (b .is-sound2 .ensures), c .before .if2 .left, eq-eqb _ _ (c .if3 .left))
 
 pub refusal-of-spec : {M : Type 1} → statement M
 refusal-of-spec =

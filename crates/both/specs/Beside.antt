@@ -1,7 +1,7 @@
 -- Pairs as the code goes over them: from a flag byte and a mask byte on, side by side.
 -- Assumes nothing.
 use Rattle.laws.specs.Words.{ℕ, zero, suc, List, [], _∷_}
-use Rattle.model.specs.Interrupt.{Pair}
+use Rattle.ports.specs.Interrupt.{Pair}
 
 -- n of them
 abbrev pub beside : ℕ → ℕ → ℕ → List Pair

@@ -1,14 +1,8 @@
--- `address::lanes::part_of` meets its contract.
+-- `moves::part_of` meets its contract.
 -- Assumes nothing.
 use borrow.Author.Needs.{needs}
-use Rattle.address.proofs.lanes.part_of.Statement.{statement}
-use Rattle.address.proofs.lanes.part_of.Tie as tie
-
-cast-a : tie.Need-cast-a
-cast-a c = search needs
-
-cast-b : tie.Need-cast-b
-cast-b c = search needs
+use Rattle.moves.proofs.part_of.Statement.{statement}
+use Rattle.moves.proofs.part_of.Tie as tie
 
 later-requires : tie.Need-later-requires
 later-requires c κs = search needs
@@ -30,9 +24,9 @@ between-requires c κs = search needs
 
 returns : tie.Need-returns
 returns c =
-    let l = c .before .before .before .before in
+    let l = c .before .before in
     (rw (l .later .ensures), rw (c .between .ensures, c .before .sooner .ensures, l .later .ensures))
 
 pub part-of-spec : {M : Type 1} → statement M
 part-of-spec =
-    tie.close (tie.spec cast-a cast-b later-requires sub-t6 add-sooner add-sooner-2 sooner-requires between-requires returns)
+    tie.close (tie.spec later-requires sub-t6 add-sooner add-sooner-2 sooner-requires between-requires returns)

@@ -1,12 +1,12 @@
--- `record::let_by` meets its contract.
+-- `both::let_by` meets its contract.
 -- Assumes nothing.
 use mathlib.Core.Path.{refl}
 use native.Mathlib.Omega.{arith}
 use lib.Bits.{bitAnd, bitXor}
 use lib.Count.{ones-le}
 use Rattle.laws.proofs.Bits.{without-lt}
-use Rattle.record.proofs.let_by.Statement.{statement}
-use Rattle.record.proofs.let_by.Tie as tie
+use Rattle.both.proofs.let_by.Statement.{statement}
+use Rattle.both.proofs.let_by.Tie as tie
 
 cast-result : tie.Need-cast-result
 cast-result c =
