@@ -1,0 +1,11 @@
+pub mod Bits
+pub mod Sound
+pub mod Lawful
+pub mod Demand1
+pub mod Flags
+pub mod Onsets
+pub mod Shown
+pub mod Interrupt
+pub mod Demand3
+pub mod Writes
+pub mod Vectors
