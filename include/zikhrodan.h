@@ -265,6 +265,89 @@ static inline uint64_t zikhrodan_log_value(uint64_t answer)
     return answer >> 8;
 }
 
+/* ---- the eight-channel module
+ *
+ * QSFP-DD revision 2.0's flags and masks with two ports (document 02, Ask 6; docs/EIGHT.md has the map). Its state is 98 bytes that the
+ * caller lends: the conditions of the last accepted sample, then the operator's record, then the recorder's. Any 98 bytes may be
+ * passed; zikhrodan_dd_reset makes a state of them. The answers are those of the four calls above. A count is the number of pending
+ * bits that the port's masks let through: a bit is pending from the onset of its condition until the port reads its flag byte. */
+
+enum {
+    ZIKHRODAN_DD_STATE_LEN = 98,
+    ZIKHRODAN_DD_SAMPLE_LEN = 14,   /* a condition byte for each flag byte, 3 to 16 */
+    ZIKHRODAN_DD_ADDRESSES = 128,
+    ZIKHRODAN_DD_FLAG_BYTES = 14,
+    ZIKHRODAN_DD_OPERATOR_AT = 14,  /* where the operator's record starts in a state, */
+    ZIKHRODAN_DD_RECORDER_AT = 56,  /* and the recorder's; */
+    ZIKHRODAN_DD_RECORD_LEN = 42,
+    ZIKHRODAN_DD_FLAGS_IN = 0,      /* in a record the flags of 3 to 16, */
+    ZIKHRODAN_DD_MASKS_IN = 14,     /* the masks of 102 to 115, */
+    ZIKHRODAN_DD_PENDING_IN = 28    /* and the pending bits of 3 to 16, which have no address */
+};
+
+/* The flag bytes. Where a byte is of channels, bit 0 is channel 1 and bit 7 channel 8. */
+enum zikhrodan_dd_flags {
+    ZIKHRODAN_DD_RX_LOS = 3,
+    ZIKHRODAN_DD_TX_LOS = 4,
+    ZIKHRODAN_DD_RX_CDR_LOL = 5,
+    ZIKHRODAN_DD_TX_CDR_LOL = 6,
+    ZIKHRODAN_DD_TX_FAULT = 7,
+    ZIKHRODAN_DD_TEMPERATURE = 8, /* bit 7 high alarm, 6 low alarm, 5 high warning, 4 low warning */
+    ZIKHRODAN_DD_MODULE = 9,      /* 7 Vcc high alarm, 6 Vcc low alarm, 3 TEC high alarm, 2 TEC fault, 1 adaptation complete, 0 state changed */
+    ZIKHRODAN_DD_RX_POWER_LOW_WARNING = 10,
+    ZIKHRODAN_DD_RX_POWER_LOW_ALARM = 11,
+    ZIKHRODAN_DD_RX_POWER_HIGH_ALARM = 12,
+    ZIKHRODAN_DD_TX_BIAS_LOW_ALARM = 13,
+    ZIKHRODAN_DD_TX_BIAS_HIGH_ALARM = 14,
+    ZIKHRODAN_DD_TX_POWER_LOW_ALARM = 15,
+    ZIKHRODAN_DD_TX_POWER_HIGH_ALARM = 16
+};
+
+/* The mask bytes, bit by bit those of the flag bytes; but state changed has no mask. */
+enum zikhrodan_dd_masks {
+    ZIKHRODAN_DD_RX_LOS_MASK = 102,
+    ZIKHRODAN_DD_TX_LOS_MASK = 103,
+    ZIKHRODAN_DD_RX_CDR_LOL_MASK = 104,
+    ZIKHRODAN_DD_TX_CDR_LOL_MASK = 105,
+    ZIKHRODAN_DD_TX_FAULT_MASK = 106,
+    ZIKHRODAN_DD_TEMPERATURE_MASK = 107,
+    ZIKHRODAN_DD_MODULE_MASK = 108,
+    ZIKHRODAN_DD_RX_POWER_LOW_WARNING_MASK = 109,
+    ZIKHRODAN_DD_RX_POWER_LOW_ALARM_MASK = 110,
+    ZIKHRODAN_DD_RX_POWER_HIGH_ALARM_MASK = 111,
+    ZIKHRODAN_DD_TX_BIAS_LOW_ALARM_MASK = 112,
+    ZIKHRODAN_DD_TX_BIAS_HIGH_ALARM_MASK = 113,
+    ZIKHRODAN_DD_TX_POWER_LOW_ALARM_MASK = 114,
+    ZIKHRODAN_DD_TX_POWER_HIGH_ALARM_MASK = 115
+};
+
+/* A refusal of these four calls in words; any number may be passed. */
+static inline const char *zikhrodan_dd_words(uint32_t refusal)
+{
+    switch (refusal) {
+    case ZIKHRODAN_STATE_SIZE: return "the state isn't 98 bytes";
+    case ZIKHRODAN_RANGE: return "it ends past address 127";
+    case ZIKHRODAN_SAMPLE_SIZE: return "the sample isn't 14 bytes";
+    default: return zikhrodan_words(refusal);
+    }
+}
+
+/* Resets the module: all 98 bytes become 0. Refuses 1. */
+uint32_t zikhrodan_dd_reset(uint8_t *state, size_t state_len);
+
+/* Takes a sample: raises the flags of its conditions for both ports, and where a condition has its onset (it stands here, and did not
+ * in the accepted sample before) marks the bit as pending for both. Bits that are no flag are ignored. Refuses 1, 3 (either record), 8. */
+uint32_t zikhrodan_dd_sample(uint8_t *state, size_t state_len, const uint8_t *sample, size_t sample_len);
+
+/* Reads `count` bytes at `address`, 0 to 127, into the front of `out`, as the port sees them before the call: its flags at 3 to 16, its
+ * masks at 102 to 115, 0 elsewhere. The flag bytes read, and their pending bits, become 0 for this port alone. The rest of `out`
+ * stays. Refuses 1 to 6. */
+uint32_t zikhrodan_dd_read(uint8_t *state, size_t state_len, uint64_t port, uint64_t address, uint64_t count, uint8_t *out, size_t out_len);
+
+/* Writes `data` at `address`: the mask bits take it, all other bits stay, and the write is still accepted. The recorder may write 102
+ * to 115 alone. Refuses 1 to 5, 7. */
+uint32_t zikhrodan_dd_write(uint8_t *state, size_t state_len, uint64_t port, uint64_t address, const uint8_t *data, size_t data_len);
+
 #ifdef __cplusplus
 }
 #endif

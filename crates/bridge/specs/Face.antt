@@ -1,8 +1,10 @@
--- What the functions that C calls promise: the contracts of model/specs and log/specs, the numbers packed into one.
+-- What the functions that C calls promise: the contracts of ports/specs, model/specs and log/specs, the numbers packed into one.
 -- Assumes nothing.
 use Rattle.laws.specs.Words.{ℕ, suc, _/_, _%_, _<_, _≡_, List, Option, none, some}
-use Rattle.model.specs.Ports.{Call}
-use Rattle.model.specs.Contracts.{Reported, ReadDone, WriteDone, Located, monitorTold}
+use Rattle.ports.specs.Ports.{CallOf}
+use Rattle.ports.specs.Modules.{Module}
+use Rattle.ports.specs.Contracts.{Reported, ReadDone, WriteDone}
+use Rattle.model.specs.Contracts.{Located, monitorTold}
 use Rattle.log.specs.Contracts.{Added, Opened, Placed}
 use Rattle.question.specs.Search.{Told, refused, given, firstTold}
 use Rattle.bridge.specs.Packing.{byteOf, refusalIn, kindIn}
@@ -13,20 +15,22 @@ Word32 x = x < 4294967296
 
 -- ---- the calls that are lent the state to change it
 
--- a reset or a sample: the refusal, the operator's count, the recorder's
-pub record ReportPacked (s : List ℕ) (c : Call) (answer : ℕ) (t : List ℕ) : Type 0 where
-  pub report-is : Reported s c (byteOf 0 answer) (byteOf 1 answer) (byteOf 2 answer) t
-  pub rest-is : byteOf 3 answer ≡ 0
+-- of document 01's module and of the eight-channel one
+module _ {Image : Type 0} (M : Module Image) where
+  -- a reset or a sample: the refusal, the operator's count, the recorder's
+  pub record ReportPacked (s : List ℕ) (c : CallOf Image) (answer : ℕ) (t : List ℕ) : Type 0 where
+    pub report-is : Reported M s c (byteOf 0 answer) (byteOf 1 answer) (byteOf 2 answer) t
+    pub rest-is : byteOf 3 answer ≡ 0
 
--- a read: the refusal, the calling port's count
-pub record ReadPacked (s : List ℕ) (n a k : ℕ) (out : List ℕ) (answer : ℕ) (t shown : List ℕ) : Type 0 where
-  pub read-is : ReadDone s n a k out (byteOf 0 answer) (byteOf 1 answer) t shown
-  pub rest-is : (byteOf 2 answer ≡ 0) × (byteOf 3 answer ≡ 0)
+  -- a read: the refusal, the calling port's count
+  pub record ReadPacked (s : List ℕ) (n a k : ℕ) (out : List ℕ) (answer : ℕ) (t shown : List ℕ) : Type 0 where
+    pub read-is : ReadDone M s n a k out (byteOf 0 answer) (byteOf 1 answer) t shown
+    pub rest-is : (byteOf 2 answer ≡ 0) × (byteOf 3 answer ≡ 0)
 
--- a write, likewise
-pub record WritePacked (s : List ℕ) (n a : ℕ) (vs : List ℕ) (answer : ℕ) (t : List ℕ) : Type 0 where
-  pub write-is : WriteDone s n a vs (byteOf 0 answer) (byteOf 1 answer) t
-  pub rest-is : (byteOf 2 answer ≡ 0) × (byteOf 3 answer ≡ 0)
+  -- a write, likewise
+  pub record WritePacked (s : List ℕ) (n a : ℕ) (vs : List ℕ) (answer : ℕ) (t : List ℕ) : Type 0 where
+    pub write-is : WriteDone M s n a vs (byteOf 0 answer) (byteOf 1 answer) t
+    pub rest-is : (byteOf 2 answer ≡ 0) × (byteOf 3 answer ≡ 0)
 
 -- ---- identity and monitors
 

@@ -1,10 +1,12 @@
-// The C face: the calls of `module`, `readout`, `log_calls` and `log_first` under the names of include/zikhrodan.h, over
-// numbers and byte slices. A slice is a pointer and then a length; an answer of several numbers is packed into one.
+// The C face: the calls of `module`, `eight_module`, `readout`, `log_calls` and `log_first` under the names of include/zikhrodan.h,
+// over numbers and byte slices. A slice is a pointer and then a length; an answer of several numbers is packed into one.
 // Proved: each answer, and each byte left, is that of the definitions, through the calls' own contracts (specs/Face.antt).
 ghost use mathlib.Core.Path.{_≡_};
 ghost use Prim.Native.Nat.{_<_};
-ghost use Rattle.model.specs.Ports.{reset, sample};
+ghost use Rattle.ports.specs.Ports.{reset, sample};
+ghost use Rattle.model.specs.Module.{document01};
 ghost use Rattle.model.specs.Contracts.{monitorTold, limitsTold};
+ghost use Rattle.eight.specs.Module.{eight};
 ghost use Rattle.bridge.specs.Packing.{byteOf, refusalIn, valueIn, limitIn};
 ghost use Rattle.log_first.specs.Meaning.{firstSays};
 ghost use Rattle.bridge.specs.Face.{ReportPacked, ReadPacked, WritePacked, PlacePacked, KindPacked, AddPacked, OpenPacked, SamplePacked, FirstPacked, valueOfFirst, upper};
@@ -16,14 +18,14 @@ mod packing;
 
 #[no_mangle]
 pub extern "C" fn zikhrodan_reset(state: &mut [u8], image: &[u8]) -> u32
-    ensures { λ r. ⌜ ReportPacked (now (state .entry)) (reset (now (image .entry))) r (now (state .exit)) ⌝ }
+    ensures { λ r. ⌜ ReportPacked document01 (now (state .entry)) (reset (now (image .entry))) r (now (state .exit)) ⌝ }
 {
     packing::report(module::reset::reset(state, image))
 }
 
 #[no_mangle]
 pub extern "C" fn zikhrodan_sample(state: &mut [u8], x: &[u8]) -> u32
-    ensures { λ r. ⌜ ReportPacked (now (state .entry)) (sample (now (x .entry))) r (now (state .exit)) ⌝ }
+    ensures { λ r. ⌜ ReportPacked document01 (now (state .entry)) (sample (now (x .entry))) r (now (state .exit)) ⌝ }
 {
     packing::report(module::sample::sample(state, x))
 }
@@ -36,16 +38,52 @@ pub extern "C" fn zikhrodan_read(
     count: u64,
     out: &mut [u8],
 ) -> u32
-    ensures { λ r. ⌜ ReadPacked (now (state .entry)) port address count (now (out .entry)) r (now (state .exit)) (now (out .exit)) ⌝ }
+    ensures { λ r. ⌜ ReadPacked document01 (now (state .entry)) port address count (now (out .entry)) r (now (state .exit)) (now (out .exit)) ⌝ }
 {
     packing::answer(module::read::read(state, port, address, count, out))
 }
 
 #[no_mangle]
 pub extern "C" fn zikhrodan_write(state: &mut [u8], port: u64, address: u64, bytes: &[u8]) -> u32
-    ensures { λ r. ⌜ WritePacked (now (state .entry)) port address (now (bytes .entry)) r (now (state .exit)) ⌝ }
+    ensures { λ r. ⌜ WritePacked document01 (now (state .entry)) port address (now (bytes .entry)) r (now (state .exit)) ⌝ }
 {
     packing::answer(module::write::write(state, port, address, bytes))
+}
+
+// ---- the same of the eight-channel module
+
+#[no_mangle]
+pub extern "C" fn zikhrodan_dd_reset(state: &mut [u8]) -> u32
+    ensures { λ r. ⌜ ReportPacked eight (now (state .entry)) (reset tt) r (now (state .exit)) ⌝ }
+{
+    packing::report(eight_module::reset::reset(state))
+}
+
+#[no_mangle]
+pub extern "C" fn zikhrodan_dd_sample(state: &mut [u8], x: &[u8]) -> u32
+    ensures { λ r. ⌜ ReportPacked eight (now (state .entry)) (sample (now (x .entry))) r (now (state .exit)) ⌝ }
+{
+    packing::report(eight_module::sample::sample(state, x))
+}
+
+#[no_mangle]
+pub extern "C" fn zikhrodan_dd_read(
+    state: &mut [u8],
+    port: u64,
+    address: u64,
+    count: u64,
+    out: &mut [u8],
+) -> u32
+    ensures { λ r. ⌜ ReadPacked eight (now (state .entry)) port address count (now (out .entry)) r (now (state .exit)) (now (out .exit)) ⌝ }
+{
+    packing::answer(eight_module::read::read(state, port, address, count, out))
+}
+
+#[no_mangle]
+pub extern "C" fn zikhrodan_dd_write(state: &mut [u8], port: u64, address: u64, bytes: &[u8]) -> u32
+    ensures { λ r. ⌜ WritePacked eight (now (state .entry)) port address (now (bytes .entry)) r (now (state .exit)) ⌝ }
+{
+    packing::answer(eight_module::write::write(state, port, address, bytes))
 }
 
 // ---- identity

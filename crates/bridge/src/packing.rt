@@ -4,10 +4,10 @@
 ghost use mathlib.Core.Path.{_≡_};
 ghost use Rattle.readout.specs.Meaning.{monitorSays, limitsSay};
 ghost use Rattle.bridge.specs.Packing.{byteOf, refusalIn, kindIn, valueIn, limitIn};
+use both::Answer;
+use both::Answers;
 use readout::Limited;
 use readout::Monitored;
-use record::Answer;
-use record::Answers;
 
 // ---- bytes in one number
 

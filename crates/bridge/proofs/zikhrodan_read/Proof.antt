@@ -1,6 +1,8 @@
 -- `bridge::zikhrodan_read` meets its contract.
 -- Assumes nothing.
 use borrow.Author.Needs.{needs}
+use Rattle.model.specs.Module.{document01}
+use Rattle.bridge.proofs.Packed.{read-packed}
 use Rattle.bridge.proofs.zikhrodan_read.Statement.{statement}
 use Rattle.bridge.proofs.zikhrodan_read.Tie as tie
 
@@ -17,9 +19,7 @@ same-length-2 : tie.Need-same-length-2
 same-length-2 c = search needs
 
 returns : tie.Need-returns
-returns c =
-    let e = c .answer .ensures in
-    record { read-is = rw (e .0, e .1) (c .before .before .before .before .before .read .ensures); rest-is = (e .2, e .3) }
+returns c = read-packed document01 (c .before .before .before .before .before .read .ensures) (c .answer .ensures)
 
 pub zikhrodan-read-spec : {M : Type 1} → statement M
 zikhrodan-read-spec = tie.close (tie.spec read-requires answer-requires same-length same-length-2 returns)

@@ -1,6 +1,8 @@
 -- `bridge::zikhrodan_reset` meets its contract.
 -- Assumes nothing.
 use borrow.Author.Needs.{needs}
+use Rattle.model.specs.Module.{document01}
+use Rattle.bridge.proofs.Packed.{report-packed}
 use Rattle.bridge.proofs.zikhrodan_reset.Statement.{statement}
 use Rattle.bridge.proofs.zikhrodan_reset.Tie as tie
 
@@ -14,9 +16,7 @@ same-length : tie.Need-same-length
 same-length c = search needs
 
 returns : tie.Need-returns
-returns c =
-    let e = c .report .ensures in
-    record { report-is = rw (e .0, e .1, e .2) (c .before .before .before .reset .ensures); rest-is = e .3 }
+returns c = report-packed document01 (c .before .before .before .reset .ensures) (c .report .ensures)
 
 pub zikhrodan-reset-spec : {M : Type 1} → statement M
 zikhrodan-reset-spec = tie.close (tie.spec reset-requires report-requires same-length returns)

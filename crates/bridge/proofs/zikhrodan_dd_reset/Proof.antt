@@ -1,0 +1,22 @@
+-- `bridge::zikhrodan_dd_reset` meets its contract.
+-- Assumes nothing.
+use borrow.Author.Needs.{needs}
+use Rattle.eight.specs.Module.{eight}
+use Rattle.bridge.proofs.Packed.{report-packed}
+use Rattle.bridge.proofs.zikhrodan_dd_reset.Statement.{statement}
+use Rattle.bridge.proofs.zikhrodan_dd_reset.Tie as tie
+
+reset-requires : tie.Need-reset-requires
+reset-requires c κs = search needs
+
+report-requires : tie.Need-report-requires
+report-requires c κs = search needs
+
+same-length : tie.Need-same-length
+same-length c = search needs
+
+returns : tie.Need-returns
+returns c = report-packed eight (c .before .before .before .reset .ensures) (c .report .ensures)
+
+pub zikhrodan-dd-reset-spec : {M : Type 1} → statement M
+zikhrodan-dd-reset-spec = tie.close (tie.spec reset-requires report-requires same-length returns)
