@@ -69,6 +69,17 @@ struct call a_put(uint64_t place, uint8_t byte)
     return (struct call){ .kind = PUT, .number = place, .fill = byte };
 }
 
+struct call a_reset_of_eight(void)
+{
+    return of_eight(a_reset((struct bytes){ NULL, 0 }));
+}
+
+struct call of_eight(struct call call)
+{
+    call.eight = true;
+    return call;
+}
+
 const char *call_name(enum kind kind)
 {
     static const char *const names[KINDS] = {

@@ -17,6 +17,7 @@ struct bytes {
 
 struct call {
     enum kind kind;
+    bool eight;                     /* RESET to WRITE: of the eight-channel module */
     uint64_t port, address, count;  /* of a read or a write, which has no count but its data's length */
     uint64_t number, which;         /* the field, the monitor, the quantity or the used number; which of its limits; */
                                     /* the position in a log, or the status bit; of PUT the place */
@@ -40,6 +41,9 @@ struct call a_log_power_up(uint64_t used);
 struct call a_log_sample(uint64_t used, uint64_t position);
 struct call a_log_first(uint64_t used, uint64_t bit);
 struct call a_put(uint64_t place, uint8_t byte);
+/* A reset without an image, and the same sample, read or write, of the eight-channel module. */
+struct call a_reset_of_eight(void);
+struct call of_eight(struct call call);
 
 /* The answer is a double, given as its bits. */
 bool call_is_double(enum kind kind);

@@ -1,11 +1,14 @@
-/* demand3.c: the third demand as pairs of runs, on the library alone. Both begin with the same bytes and the same accepted reset.
+/* demand3.c: the third demand as pairs of runs, on the library alone, of either module. Both begin with the same bytes and the same
+ * accepted reset.
  *
  * Samples, resets and recorder calls the same, operator calls added, dropped or altered: the recorder's record, its answers, its
- * byte 2 and every byte that it reads agree, save the bytes of document 01's shared list.
+ * byte 2 and every byte that it reads agree, save the bytes of document 01's shared list. The eight-channel module shares none, and
+ * the conditions that it keeps agree too.
  * Recorder calls dropped: every operator answer, every byte that the operator reads and every state byte outside the recorder's
  * record agree. */
 #include "cases.h"
 #include "check.h"
+#include "eight_cases.h"
 #include "engines.h"
 #include "generate.h"
 #include "groups.h"
@@ -15,15 +18,26 @@
 #include <inttypes.h>
 #include <string.h>
 
-enum { OUTPUT_ROOM = 2048, RECORDER_AT = RECORDS_AT + RECORD_LEN };
+enum { OUTPUT_ROOM = 2048 };
+
+/* What differs from one module to the other. */
+static const struct module {
+    size_t len, recorder_at, record_len;
+    size_t untouched;                           /* so many bytes at its front no port's call changes */
+    struct call (*right_reset)(void);           /* one that is accepted */
+    struct call (*reset)(void);
+    struct call (*sample)(const uint8_t *state);
+    struct call (*read)(uint64_t port), (*write)(uint64_t port);
+    bool eight;
+} *module;
 
 static struct run {
-    uint8_t state[STATE_LEN], out[OUTPUT_ROOM];
+    uint8_t state[STATE_LEN], out[OUTPUT_ROOM]; /* the state has module->len bytes */
     uint64_t answer;
     struct list list;
 } a, b;
 
-static uint64_t excused, excused_differed, varied, dropped, records_differed;
+static uint64_t excused, excused_differed, varied, mattered, dropped, records_differed;
 
 static void print_runs(void)
 {
@@ -35,7 +49,7 @@ static void print_runs(void)
 
 static void make(struct run *run, const struct call *call)
 {
-    struct lent lent = { run->state, STATE_LEN, call->first.at, NULL, call->out_null ? NULL : run->out };
+    struct lent lent = { run->state, module->len, call->first.at, NULL, call->out_null ? NULL : run->out };
     list_add(&run->list, call);
     memset(run->out, call->fill, OUTPUT_ROOM);
     run->answer = by_library(call, &lent);
@@ -50,22 +64,29 @@ static void make_on_both(const struct call *call)
 
 static void begin_both(void)
 {
-    uint8_t state[STATE_LEN], image[IMAGE_LEN];
-    random_fill(state, STATE_LEN);
-    some_image(image);
-    memcpy(a.state, state, STATE_LEN);
-    memcpy(b.state, state, STATE_LEN);
-    list_begin(&a.list, (struct bytes){ state, STATE_LEN }, AT_END);
-    list_begin(&b.list, (struct bytes){ state, STATE_LEN }, AT_END);
-    struct call reset = a_reset((struct bytes){ image, IMAGE_LEN });
+    uint8_t state[STATE_LEN];
+    random_fill(state, module->len);
+    memcpy(a.state, state, module->len);
+    memcpy(b.state, state, module->len);
+    list_begin(&a.list, (struct bytes){ state, module->len }, AT_END);
+    list_begin(&b.list, (struct bytes){ state, module->len }, AT_END);
+    struct call reset = module->right_reset();
     make_on_both(&reset);
     if (a.answer || b.answer)
-        mismatch("a reset to a right image is refused");
+        mismatch("a right reset is refused");
+}
+
+/* The page that the recorder has selected; 0 where there are none. */
+static unsigned recorders_page(void)
+{
+    return module->eight ? 0 : a.state[module->recorder_at + SELECTED];
 }
 
 /* Document 01's shared list, for a host address while this page is selected. */
 static bool is_shared(unsigned address, unsigned page)
 {
+    if (module->eight)
+        return false;
     if (address < 128)
         return address == 86 || address == 87 || address == 88 || address == 93 || address == 98;
     return page == 2 || (page == 3 && address >= 234 && address <= 241);
@@ -108,7 +129,7 @@ static void byte_2_agrees(void)
 
 static struct call port_call(uint64_t port)
 {
-    return chance(50) ? some_read(port) : some_write(port);
+    return chance(50) ? module->read(port) : module->write(port);
 }
 
 static void operator_step(void)
@@ -134,14 +155,19 @@ static void vary_operator(void)
         if (chance(45)) {
             operator_step();
         } else {
-            unsigned page = a.state[RECORDER_AT + SELECTED];
-            struct call call = chance(5) ? some_reset() : chance(30) ? some_sample(a.state) : port_call(RECORDER);
+            unsigned page = recorders_page();
+            struct call call = chance(5) ? module->reset() : chance(30) ? module->sample(a.state) : port_call(RECORDER);
             make_on_both(&call);
             recorder_agrees(&call, page);
         }
-        if (memcmp(a.state + RECORDER_AT, b.state + RECORDER_AT, RECORD_LEN))
+        const size_t operator_at = module->recorder_at - module->record_len;
+        mattered += memcmp(a.state + operator_at, b.state + operator_at, module->record_len) != 0;
+        if (memcmp(a.state + module->recorder_at, b.state + module->recorder_at, module->record_len))
             mismatch("the recorder's record differs");
-        byte_2_agrees();
+        if (memcmp(a.state, b.state, module->untouched))
+            mismatch("a byte differs that is in no record");
+        if (!module->eight)
+            byte_2_agrees();
     }
 }
 
@@ -158,7 +184,7 @@ static void drop_recorder(void)
             if (!drop)
                 make(&b, &call);
         } else {
-            struct call call = chance(5) ? some_reset() : chance(30) ? some_sample(a.state) : port_call(OPERATOR);
+            struct call call = chance(5) ? module->reset() : chance(30) ? module->sample(a.state) : port_call(OPERATOR);
             uint64_t recorder_count = call.kind == RESET || call.kind == SAMPLE ? 0xff0000 : 0;
             make_on_both(&call);
             if ((a.answer ^ b.answer) & ~recorder_count)
@@ -166,25 +192,51 @@ static void drop_recorder(void)
             if (memcmp(a.out, b.out, OUTPUT_ROOM))
                 mismatch("the operator reads other bytes");
         }
-        if (memcmp(a.state, b.state, RECORDER_AT))
+        if (memcmp(a.state, b.state, module->recorder_at))
             mismatch("a state byte outside the recorder's record differs");
-        records_differed += memcmp(a.state + RECORDER_AT, b.state + RECORDER_AT, RECORD_LEN) != 0;
+        records_differed += memcmp(a.state + module->recorder_at, b.state + module->recorder_at, module->record_len) != 0;
     }
 }
 
-void group_demand_3(void)
+static void pairs(const struct module *which, uint64_t sum)
 {
     random_seed(options.seed);
     print_with(print_runs);
-    excused = excused_differed = varied = dropped = records_differed = 0;
+    module = which;
+    excused = excused_differed = varied = mattered = dropped = records_differed = 0;
     for (uint64_t pair = 0; pair < options.pairs; pair++) {
         vary_operator();
         drop_recorder();
     }
-    drawn_as(0xcfda14e1af477680);
-    if (!excused_differed || !varied || !dropped || !records_differed)
-        fail("it is idle: no shared byte differed, no call was varied or dropped, or no dropped call mattered");
-    say(" in %" PRIu64 " pairs of runs; %" PRIu64 " operator calls varied, %" PRIu64 " shared bytes read by the recorder, "
-        "%" PRIu64 " of which differed; %" PRIu64 " recorder calls dropped, its record differed after %" PRIu64 " calls",
-        2 * options.pairs, varied, excused, excused_differed, dropped, records_differed);
+    drawn_as(sum);
+    if (!mattered || !dropped || !records_differed || (!module->eight && !excused_differed))
+        fail("it is idle: no shared byte differed, no call was dropped, or no varied or dropped call mattered");
+    say(" in %" PRIu64 " pairs of runs; %" PRIu64 " operator calls varied, its record differed after %" PRIu64 " calls, %" PRIu64
+        " shared bytes read by the recorder, %" PRIu64 " of which differed; %" PRIu64
+        " recorder calls dropped, its record differed after %" PRIu64 " calls",
+        2 * options.pairs, varied, mattered, excused, excused_differed, dropped, records_differed);
+}
+
+static struct call right_reset(void)
+{
+    static uint8_t image[IMAGE_LEN];
+    some_image(image);
+    return a_reset((struct bytes){ image, IMAGE_LEN });
+}
+
+void group_demand_3(void)
+{
+    static const struct module own = {
+        STATE_LEN, RECORDS_AT + RECORD_LEN, RECORD_LEN, 0, right_reset, some_reset, some_sample, some_read, some_write, false,
+    };
+    pairs(&own, 0xcfda14e1af477680);
+}
+
+void group_eight_demand_3(void)
+{
+    static const struct module eight = {
+        EIGHT_LEN, EIGHT_BYTES + EIGHT_RECORD_LEN, EIGHT_RECORD_LEN, EIGHT_BYTES, a_reset_of_eight, a_reset_of_eight,
+        some_eight_sample, some_eight_read, some_eight_write, true,
+    };
+    pairs(&eight, 0x4c7f39681f18f425);
 }

@@ -2,12 +2,10 @@
 #include "cases.h"
 #include "check.h"
 #include "groups.h"
+#include "lengths.h"
 #include "random.h"
 
-enum { MOST = 64 };
-
-/* 0 to 4, around 128, and each power of two minus 2 to plus 2. */
-static size_t find_ends(uint64_t *ends)
+size_t find_ends(uint64_t *ends)
 {
     static const unsigned powers[] = { 7, 8, 16, 31, 32, 63, 64 };
     size_t count = 0;
@@ -43,7 +41,7 @@ static void by_port(const uint8_t *state, uint64_t port, const uint64_t *ends, s
 void group_ends(void)
 {
     uint8_t state[STATE_LEN], live[PAGE_LEN], factory[PAGE_LEN];
-    uint64_t ends[MOST];
+    uint64_t ends[MOST_ENDS];
     size_t count = find_ends(ends);
     random_seed(options.seed);
     random_fill(live, PAGE_LEN);

@@ -2,6 +2,7 @@
 #include "engines.h"
 
 #include "../../include/zikhrodan.h"
+#include "../plain/eight.h"
 #include "../plain/log.h"
 
 #include <string.h>
@@ -28,6 +29,16 @@ static uint64_t put(const struct call *c, const struct lent *l)
     return 0;
 }
 
+static uint64_t library_answer_of_eight(const struct call *c, const struct lent *l)
+{
+    switch (c->kind) {
+    case RESET: return zikhrodan_dd_reset(l->state, l->state_len);
+    case SAMPLE: return zikhrodan_dd_sample(l->state, l->state_len, l->first, c->first.len);
+    case READ: return zikhrodan_dd_read(l->state, l->state_len, c->port, c->address, c->count, l->out, c->out_len);
+    default: return zikhrodan_dd_write(l->state, l->state_len, c->port, c->address, l->first, c->first.len);
+    }
+}
+
 static uint64_t library_answer(const struct call *c, const struct lent *l)
 {
     switch (c->kind) {
@@ -45,6 +56,16 @@ static uint64_t library_answer(const struct call *c, const struct lent *l)
     case LOG_SAMPLE: return zikhrodan_log_sample(l->state, l->state_len, c->number, c->which);
     case LOG_FIRST: return zikhrodan_log_first(l->state, l->state_len, c->number, c->which);
     default: return put(c, l);
+    }
+}
+
+static uint64_t plain_answer_of_eight(const struct call *c, const struct lent *l, struct plain *plain)
+{
+    switch (c->kind) {
+    case RESET: return plain_dd_reset(plain);
+    case SAMPLE: return plain_dd_sample(plain, l->first, c->first.len);
+    case READ: return plain_dd_read(plain, c->port, c->address, c->count, l->out, c->out_len);
+    default: return plain_dd_write(plain, c->port, c->address, l->first, c->first.len);
     }
 }
 
@@ -71,7 +92,7 @@ static uint64_t plain_answer(const struct call *c, const struct lent *l, struct 
 uint64_t by_library(const struct call *call, const struct lent *lent)
 {
     working = "the library";
-    uint64_t answer = library_answer(call, lent);
+    uint64_t answer = (call->eight ? library_answer_of_eight : library_answer)(call, lent);
     working = "neither engine";
     return answer;
 }
@@ -79,7 +100,7 @@ uint64_t by_library(const struct call *call, const struct lent *lent)
 uint64_t by_plain(const struct call *call, const struct lent *lent, struct plain *plain)
 {
     working = "the plain engine";
-    uint64_t answer = plain_answer(call, lent, plain);
+    uint64_t answer = (call->eight ? plain_answer_of_eight : plain_answer)(call, lent, plain);
     working = "neither engine";
     return answer;
 }

@@ -7,8 +7,7 @@
 
 #include <string.h>
 
-/* Mostly the right length; else a wrong one, also none at a null pointer. */
-static struct bytes of_length(const uint8_t *at, size_t right, size_t room, unsigned percent_wrong)
+struct bytes of_length(const uint8_t *at, size_t right, size_t room, unsigned percent_wrong)
 {
     if (!chance(percent_wrong))
         return (struct bytes){ at, right };
@@ -17,8 +16,7 @@ static struct bytes of_length(const uint8_t *at, size_t right, size_t room, unsi
     return (struct bytes){ i == 4 ? NULL : at, wrong[i] };
 }
 
-/* Anything: as likely a few bits as many, and as likely just below 2^64. */
-static uint64_t any_number(void)
+uint64_t any_number(void)
 {
     uint64_t number = random_size();
     return chance(50) ? number : -number;

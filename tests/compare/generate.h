@@ -4,6 +4,12 @@
 
 #include "call.h"
 
+/* Mostly the right length of the memory's front; else a wrong one up to `room`, also none at a null pointer. */
+struct bytes of_length(const uint8_t *at, size_t right, size_t room, unsigned percent_wrong);
+
+/* Anything: as likely a few bits as many, and as likely just below 2^64. */
+uint64_t any_number(void);
+
 /* What a history begins with: a real module's bytes, random ones made sound or not, or a wrong number of them. */
 struct bytes some_beginning(void);
 

@@ -1,4 +1,4 @@
-/* groups.h: the groups of cases: the module's, in the order in which they are run, and the log's. */
+/* groups.h: the groups of cases: the module's, in the order in which they are run, the eight-channel module's and the log's. */
 #ifndef GROUPS_H
 #define GROUPS_H
 
@@ -19,6 +19,15 @@ void group_starts(void);        /* the other placements: right after unreadable 
 void group_odd(void);           /* and at odd addresses */
 void group_histories(void);     /* random calls */
 void group_demand_3(void);      /* pairs of runs, on the library alone */
+
+void group_eight_refusals(void);    /* the eight-channel module's: every set of refusals at once */
+void group_eight_lengths(void);     /* lengths, and numbers at their ends */
+void group_eight_read(void);        /* every address by every count */
+void group_eight_write(void);       /* the same, and every value of every mask byte */
+void group_eight_records(void);     /* every byte of a state, sound or not, by every call */
+void group_eight_sample(void);      /* each condition alone, and every value over every value before */
+void group_eight_histories(void);   /* random calls */
+void group_eight_demand_3(void);    /* pairs of runs, on the library alone */
 
 void group_log_refusals(void);  /* every set of refusals at once */
 void group_log_blocks(void);    /* logs that grow, counts, numbers, sums */

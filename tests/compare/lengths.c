@@ -2,6 +2,7 @@
 #include "cases.h"
 #include "check.h"
 #include "groups.h"
+#include "lengths.h"
 #include "random.h"
 
 #include <string.h>
@@ -20,9 +21,7 @@ static void fill_all(void)
     set_codes(factory);
 }
 
-/* The front of a memory at each length 0 to `most` and at large ones, after no bytes at a null pointer; gives how many. */
-enum { MOST = 800 };
-static size_t each_length(struct bytes *all, const uint8_t *memory, size_t most)
+size_t each_length(struct bytes *all, const uint8_t *memory, size_t most)
 {
     static const size_t large[] = { 1376, 4096, 32768, REGION };
     size_t count = 0;

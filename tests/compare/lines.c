@@ -18,6 +18,7 @@ size_t memory_seen(void)
 uint64_t make(struct call call)
 {
     static uint8_t before[REGION];
+    call.eight = now.memory == EIGHT && call.kind <= WRITE;
     memcpy(before, both_state(), memory_seen());
     if (!both_make(&call))
         now.agreed = false;
@@ -34,6 +35,14 @@ bool line_reset(struct words *words, FILE *found)
     if (!words_end(words) && !words_last_bytes(words, &image))
         return false;
     outcome_report(found, make(a_reset(image)));
+    return true;
+}
+
+bool line_reset_eight(struct words *words, FILE *found)
+{
+    if (!words_end(words))
+        return false;
+    outcome_report(found, make(a_reset_of_eight()));
     return true;
 }
 

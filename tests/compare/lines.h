@@ -8,14 +8,14 @@
 
 /* What goes from line to line. */
 struct now {
-    enum memory { ANY = -1, NONE, MODULE, LOG } memory; /* none until a state or a log is set up */
-    struct bytes begun;                                 /* how long it is, and whether at a null pointer */
+    enum memory { ANY = -1, NONE, MODULE, EIGHT, LOG } memory;  /* none until a module or a log is set up */
+    struct bytes begun;                                         /* how long it is, and whether at a null pointer */
     enum place place;
     uint64_t used;
     uint8_t image[REGION];
     size_t image_len;
-    bool agreed;                                        /* of a line: both engines agreed in all its calls; */
-    bool changed;                                       /* a byte changed that should not have */
+    bool agreed;                                                /* of a line: both engines agreed in all its calls; */
+    bool changed;                                               /* a byte changed that should not have */
 };
 extern struct now now;
 
@@ -25,7 +25,7 @@ size_t memory_seen(void);
 /* Makes a call on both engines; the library's answer. */
 uint64_t make(struct call call);
 
-/* ---- calls of a module */
+/* ---- calls of a module; sample, samples, read and write also of the eight-channel one */
 
 bool line_reset(struct words *words, FILE *found);
 bool line_sample(struct words *words, FILE *found);
@@ -36,6 +36,9 @@ bool line_identity(struct words *words, FILE *found);
 bool line_monitor(struct words *words, FILE *found);
 bool line_limits(struct words *words, FILE *found);
 bool line_limit(struct words *words, FILE *found);
+
+/* The eight-channel module's: it takes no image. Its other three are those of a module. */
+bool line_reset_eight(struct words *words, FILE *found);
 
 /* ---- calls of a log */
 

@@ -1,17 +1,13 @@
 /* log_histories.c: random histories of a log: samples, power-ups, readings, questions, and bytes that change and are as they were
- * again. The group also fails if its calls leave out an outcome. */
+ * again. */
 #include "both.h"
 #include "check.h"
 #include "groups.h"
 #include "log_cases.h"
 #include "random.h"
-
-#include <inttypes.h>
-#include <string.h>
+#include "tally.h"
 
 enum { FEWER = 10 };  /* the calls are that part of those of the module's histories */
-
-static uint64_t made, accepted[KINDS], refused[KINDS], refusals[256];
 
 /* The log as it stands: its length and used number. Where a byte of it was changed, and what it was. */
 static size_t len;
@@ -25,12 +21,7 @@ static bool quiet;  /* few of its samples have a status bit */
 static void make(struct call call, bool goes_on)
 {
     uint64_t answer = try(call);
-    made++;
-    refusals[answer & 0xff]++;
-    if (answer & 0xff)
-        refused[call.kind]++;
-    else
-        accepted[call.kind]++;
+    tally(call.kind, answer & 0xff);
     if (goes_on && !(answer & 0xff) && call.kind < LOG_SAMPLE)
         used = answer >> 8;
 }
@@ -116,40 +107,18 @@ static void step(void)
     }
 }
 
-static void report(uint64_t histories)
-{
-    static const uint8_t numbers[] = { 8, 14, 15, 17 };
-    char line[400];
-    int end = snprintf(line, sizeof line, " in %" PRIu64 " histories; accepted and refused:", histories);
-    for (int kind = LOG_ADD; kind <= LOG_FIRST; kind++) {
-        if (!accepted[kind] || !refused[kind])
-            fail("%s was never %s", call_name((enum kind)kind), accepted[kind] ? "refused" : "accepted");
-        end += snprintf(line + end, sizeof line - (size_t)end, " %s %" PRIu64 " %" PRIu64 ",", call_name((enum kind)kind),
-                        accepted[kind], refused[kind]);
-    }
-    end += snprintf(line + end, sizeof line - (size_t)end, " refusals 8, 14, 15 and 17:");
-    for (size_t i = 0; i < COUNT(numbers); i++) {
-        if (!refusals[numbers[i]])
-            fail("refusal %d never came", numbers[i]);
-        end += snprintf(line + end, sizeof line - (size_t)end, " %" PRIu64, refusals[numbers[i]]);
-    }
-    say("%s", line);
-}
-
 void group_log_histories(void)
 {
+    static const uint8_t numbers[] = { 8, 14, 15, 17, 0 };
     uint64_t histories = 0;
     random_seed(options.seed);
-    made = 0;
-    memset(accepted, 0, sizeof accepted);
-    memset(refused, 0, sizeof refused);
-    memset(refusals, 0, sizeof refusals);
-    for (; made < options.calls / FEWER; histories++) {
+    tally_begin();
+    for (; tallied() < options.calls / FEWER; histories++) {
         beginning();
         for (size_t steps = 1 + random_below(12 + 16 * (unsigned)len / BLOCK_LEN); steps; steps--)
             step();
     }
     place_at(AT_END);
     drawn_as(0xd7543141c87bdadf);
-    report(histories);
+    tally_say(histories, LOG_ADD, LOG_FIRST, "refusals 8, 14, 15 and 17", numbers);
 }

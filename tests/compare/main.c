@@ -3,9 +3,9 @@
  *   compare [--calls N] [--pairs N] [--seed N] [--first] [--only GROUP] IMAGE
  *   compare follow IMAGE FILE
  *
- * IMAGE is a factory image, 640 two-digit hexadecimal numbers. --calls is for the module's random histories, and those of a log
- * make a part as many; --pairs is for the pairs of runs of demand 3; --first ends at the first group that fails. `follow` makes the
- * calls of a script, as what is printed of a mismatch is one: see script.h and follow.h. */
+ * IMAGE is a factory image, 640 two-digit hexadecimal numbers. --calls is for the module's random histories, and those of the
+ * eight-channel module and of a log make a part as many; --pairs is for the pairs of runs of demand 3; --first ends at the first
+ * group that fails. `follow` makes the calls of a script, as what is printed of a mismatch is one: see script.h and follow.h. */
 #include "check.h"
 #include "follow.h"
 #include "groups.h"
@@ -20,15 +20,17 @@ static const struct group {
     const char *name;
     void (*run)(void);
 } groups[] = {
-    { "refusals", group_refusals }, { "log-blocks", group_log_blocks }, { "log-refusals", group_log_refusals },
-    { "log-summaries", group_log_summaries }, { "log-first", group_log_first }, { "log-histories", group_log_histories },
-    { "log-lengths", group_log_lengths },
-    { "histories", group_histories }, { "lengths", group_lengths }, { "vast", group_vast },
+    { "refusals", group_refusals }, { "eight-refusals", group_eight_refusals }, { "log-blocks", group_log_blocks },
+    { "log-refusals", group_log_refusals }, { "log-summaries", group_log_summaries }, { "log-first", group_log_first },
+    { "log-histories", group_log_histories }, { "log-lengths", group_log_lengths }, { "histories", group_histories },
+    { "eight-histories", group_eight_histories }, { "eight-sample", group_eight_sample },
+    { "eight-lengths", group_eight_lengths }, { "eight-write", group_eight_write }, { "eight-records", group_eight_records },
+    { "eight-read", group_eight_read }, { "lengths", group_lengths }, { "vast", group_vast },
     { "ends", group_ends }, { "identity", group_identity }, { "reset", group_reset }, { "select", group_select },
     { "sample", group_sample }, { "write", group_write }, { "limits", group_limits }, { "records", group_records },
     { "monitors", group_monitors }, { "read", group_read }, { "starts", group_starts }, { "odd", group_odd },
     { "log-damage", group_log_damage }, { "log-far", group_log_far }, { "log-first-far", group_log_first_far },
-    { "demand-3", group_demand_3 },
+    { "demand-3", group_demand_3 }, { "eight-demand-3", group_eight_demand_3 },
 };
 enum { GROUPS = sizeof groups / sizeof groups[0] };
 
@@ -44,6 +46,8 @@ static void elsewhere(enum place place)
     group_log_blocks();
     group_log_first();
     group_log_lengths();
+    group_eight_refusals();
+    group_eight_lengths();
     place_at(AT_END);
 }
 

@@ -22,7 +22,27 @@ void end_of_sets(unsigned all, bool (*excluded)(unsigned set));
 /* A state of the given length without page 01h, both records sound, and then the named ports' unsound in one of UNSOUND ways. */
 void begin_unsound(size_t len, bool operator_unsound, bool recorder_unsound, unsigned way);
 
-/* The sets of sample, reset, identity, monitors and limits. */
+/* What differs from one kind of module to the other. */
+struct map {
+    struct call (*of)(struct call call);    /* a sample, read or write of document 01's made this map's */
+    unsigned state_len, sample_len;
+    /* Begins with a state of this length, both records sound and then the named ports' unsound, in one of so many ways. */
+    void (*begin)(size_t len, bool operator_unsound, bool recorder_unsound, unsigned way);
+    unsigned ways;
+    /* Runs, and the refusals that each alone brings: to a read, and to the recorder's write. */
+    const struct run { uint64_t address, count; unsigned set; } *reads, *writes;
+    size_t read_count, write_count;
+    bool (*read_excludes)(unsigned set);    /* sets that cannot exist */
+};
+
+/* The sets of read, write and sample. */
+void refusals_of(const struct map *map);
+
+/* Without a port there is no record of a calling port, and no recorder: 2 with 3 and 2 with 7 cannot exist. What comes nearest is
+ * tried all the same: both records unsound, and bytes that are not a recorder's own. */
+bool port_excludes(unsigned set);
+
+/* The sets of reset, identity, monitors and limits. */
 void refusals_of_the_rest(void);
 
 #endif

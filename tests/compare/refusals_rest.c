@@ -1,5 +1,5 @@
-/* refusals_rest.c: every set of refusals that can apply at once to a sample, a reset, an identity, a monitor and the limits. Here
- * all sets can exist. */
+/* refusals_rest.c: every set of refusals that can apply at once to a reset, an identity, a monitor and the limits. Here all sets
+ * can exist. */
 #include "refusals.h"
 
 #include "cases.h"
@@ -9,24 +9,6 @@ static const uint16_t state_lengths[] = { 688, 0, 1, 687, 689, 1376 };
 static unsigned state_set(size_t len)
 {
     return len == 688 ? 0 : R(1);
-}
-
-static void sample_sets(void)
-{
-    static const uint16_t lengths[] = { 31, 0, 1, 30, 32, 31 + 256 };
-    uint8_t sample[31 + 256];
-    random_fill(sample, sizeof sample);
-    for (size_t s = 0; s < COUNT(state_lengths); s++)
-        for (unsigned unsound = 0; unsound <= 3; unsound++)
-            for (size_t i = 0; i < COUNT(lengths) * UNSOUND; i++) {
-                size_t len = state_lengths[s], sample_len = lengths[i / UNSOUND];
-                if (len < 688 && unsound)
-                    continue;
-                begin_unsound(len, unsound & 1, unsound & 2, (unsigned)i % UNSOUND);
-                try_set(a_sample((struct bytes){ sample, sample_len }),
-                        state_set(len) | (unsound ? R(3) : 0) | (sample_len == 31 ? 0 : R(8)));
-            }
-    end_of_sets(R(1) | R(3) | R(8), NULL);
 }
 
 /* An image that ends before its second check code has none to be wrong, but one that is too short by a byte has both. */
@@ -107,7 +89,6 @@ static void number_sets(void)
 
 void refusals_of_the_rest(void)
 {
-    sample_sets();
     reset_sets();
     identity_sets();
     number_sets();

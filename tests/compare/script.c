@@ -42,6 +42,12 @@ static bool set_state(struct words *words, FILE *found)
     return set_memory(words, MODULE);
 }
 
+static bool set_eight(struct words *words, FILE *found)
+{
+    (void)found;
+    return set_memory(words, EIGHT);
+}
+
 static bool set_log(struct words *words, FILE *found)
 {
     (void)found;
@@ -117,7 +123,7 @@ static bool look(struct words *words, FILE *found)
     if (!words_number(words, REGION, &at) || !words_number(words, REGION, &count) || !words_end(words) || !count ||
         at + count > memory_seen())
         return false;
-    (now.memory == LOG ? outcome_many : outcome_bytes)(found, both_state() + at, (size_t)count);
+    (now.memory == MODULE ? outcome_bytes : outcome_many)(found, both_state() + at, (size_t)count);
     return true;
 }
 
@@ -129,15 +135,19 @@ static const struct {
     enum line line;
     bool (*follow)(struct words *words, FILE *found);
 } kinds[] = {
-    { "state", ANY, LINE_SETS_UP, set_state }, { "log", ANY, LINE_SETS_UP, set_log }, { "used", LOG, LINE_SETS_UP, set_used },
-    { "put", MODULE, LINE_SETS_UP, put }, { "put", LOG, LINE_SETS_UP, put }, { "image", ANY, LINE_SETS_UP, set_image },
+    { "state", ANY, LINE_SETS_UP, set_state }, { "eight", ANY, LINE_SETS_UP, set_eight }, { "log", ANY, LINE_SETS_UP, set_log },
+    { "used", LOG, LINE_SETS_UP, set_used }, { "put", MODULE, LINE_SETS_UP, put }, { "put", EIGHT, LINE_SETS_UP, put },
+    { "put", LOG, LINE_SETS_UP, put }, { "image", ANY, LINE_SETS_UP, set_image },
     { "change", ANY, LINE_SETS_UP, change }, { "place", ANY, LINE_SETS_UP, set_place },
-    { "look", MODULE, LINE_ANSWERS, look }, { "look", LOG, LINE_ANSWERS, look },
+    { "look", MODULE, LINE_ANSWERS, look }, { "look", EIGHT, LINE_ANSWERS, look }, { "look", LOG, LINE_ANSWERS, look },
     { "reset", MODULE, LINE_ANSWERS, line_reset }, { "sample", MODULE, LINE_ANSWERS, line_sample },
     { "samples", MODULE, LINE_ANSWERS, line_samples }, { "read", MODULE, LINE_ANSWERS, line_read },
     { "write", MODULE, LINE_ANSWERS, line_write }, { "identity", MODULE, LINE_ANSWERS, line_identity },
     { "monitor", MODULE, LINE_ANSWERS, line_monitor }, { "limits", MODULE, LINE_ANSWERS, line_limits },
-    { "limit", MODULE, LINE_ANSWERS, line_limit }, { "add", LOG, LINE_ANSWERS, line_add }, { "adds", LOG, LINE_ANSWERS, line_adds },
+    { "limit", MODULE, LINE_ANSWERS, line_limit }, { "reset", EIGHT, LINE_ANSWERS, line_reset_eight },
+    { "sample", EIGHT, LINE_ANSWERS, line_sample }, { "samples", EIGHT, LINE_ANSWERS, line_samples },
+    { "read", EIGHT, LINE_ANSWERS, line_read }, { "write", EIGHT, LINE_ANSWERS, line_write },
+    { "add", LOG, LINE_ANSWERS, line_add }, { "adds", LOG, LINE_ANSWERS, line_adds },
     { "power-up", LOG, LINE_ANSWERS, line_power_up }, { "sample", LOG, LINE_ANSWERS, line_sample_at },
     { "first", LOG, LINE_ANSWERS, line_first },
 };

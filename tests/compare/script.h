@@ -3,15 +3,17 @@
  *
  *   # text                                    a note, as is an empty line
  *   state LEN HH                              the memory is a module's state of LEN bytes, all HH
+ *   eight LEN HH                              it is an eight-channel module's state of LEN bytes, all HH
  *   log LEN HH                                it is a log of LEN bytes, all HH; no block is used
  *   used N                                    so many of its blocks are used
  *   put PLACE HH ..                           bytes of the memory from PLACE on
  *   image                                     the image is the factory image
  *   image LEN                                 it is LEN bytes: the first 640 as before, 0 what is past them
  *   change PLACE HH ..                        bytes of the image from PLACE on
- *   place end|start|odd                       where what is lent from the next state or log on lies: see memory.h; else `end`
- *   look PLACE COUNT => OUTCOME               `00 11`: bytes of the memory, at least one; of a log `all 00` where they are sixteen
- *                                             or more and all the same
+ *   place end|start|odd                       where what is lent from the next of state, eight or log on lies: see
+ *                                             memory.h; else `end`
+ *   look PLACE COUNT => OUTCOME               `00 11`: bytes of the memory, at least one; of a log or an eight-channel module
+ *                                             `all 00` where they are sixteen or more and all the same
  *
  * and on a module, that is after `state`,
  *
@@ -33,6 +35,8 @@
  *                                             warning and low warning, each as with a monitor
  *   limit QUANTITY WHICH => OUTCOME           one of them
  *
+ * and on an eight-channel module, that is after `eight`, reset (without an image), sample, samples, read and write;
+ *
  * and on a log
  *
  *   add HH .. => OUTCOME                      `refused 15`, or `used 1`: so many blocks are used then
@@ -46,8 +50,8 @@
  * a number of 256 and more, its sign left out, and for a NaN.
  *
  * For what no paper asks: instead of HH .. also `null`, no bytes at a null pointer, and `zeros LENGTH`, memory of 2^32 bytes and more,
- * and so LEN of a state or a log, with 00; `state null` and `log null`; ROOM may be `null`; an image may stand in the line of its
- * reset. A call without `=>` has no outcome to be held to. */
+ * and so LEN of a state, an eight or a log, with 00; `state null`, `eight null` and `log null`; ROOM may be `null`; an image may stand
+ * in the line of its reset. A call without `=>` has no outcome to be held to. */
 #ifndef SCRIPT_H
 #define SCRIPT_H
 

@@ -32,8 +32,8 @@ void sum_state(struct bytes state, enum place place)
 
 void sum_call(const struct call *call)
 {
-    const uint64_t numbers[] = { call->kind, call->port, call->address, call->count, call->number, call->which, call->out_len,
-                                 call->out_null, call->kind == PUT ? call->fill : 0 };
+    const uint64_t numbers[] = { call->kind + (call->eight ? KINDS : 0), call->port, call->address, call->count, call->number,
+                                 call->which, call->out_len, call->out_null, call->kind == PUT ? call->fill : 0 };
 
     if (calls >= SUMMED)
         return;

@@ -14,11 +14,16 @@ static void print_bytes(struct bytes bytes, FILE *to)
         fprintf(to, " %02X", bytes.at[i]);
 }
 
-/* Of a reset an image of no bytes has a line of its own: none in the reset's own is the one set up. */
+/* Of a reset an image of no bytes has a line of its own: none in the reset's own is the one set up. The eight-channel module's
+ * takes no image. */
 static void print_module_call(const struct call *call, FILE *to)
 {
     switch (call->kind) {
     case RESET:
+        if (call->eight) {
+            fputs("reset", to);
+            break;
+        }
         fputs(call->first.at && !call->first.len ? "image 0\nreset" : "reset", to);
         print_bytes(call->first, to);
         break;
@@ -68,18 +73,21 @@ static void print_log_call(const struct call *call, FILE *to)
     }
 }
 
-static bool is_of_log(const struct list *list)
+/* The line that the memory is set up with. */
+static const char *memory_word(const struct list *list)
 {
-    for (size_t i = 0; i < list->count; i++)
-        if (call_is_of_log(list->entries[i].call.kind))
-            return true;
-    return false;
+    for (size_t i = 0; i < list->count; i++) {
+        const struct call *call = &list->entries[i].call;
+        if (call->eight || call_is_of_log(call->kind))
+            return call->eight ? "eight" : "log";
+    }
+    return "state";
 }
 
 static void print_beginning(const struct list *list, FILE *to)
 {
     struct bytes state = list_state(list);
-    fprintf(to, "place %s\n%s", place_words[list->place], is_of_log(list) ? "log" : "state");
+    fprintf(to, "place %s\n%s", place_words[list->place], memory_word(list));
     if (!state.at && state.len <= REGION) {
         fputs(" null\n", to);
         return;

@@ -1,7 +1,18 @@
 /* plain.c: each call on what stands now, worked out from the list; an accepted one is put at its end. See plain.h. */
 #include "plain.h"
+#include "eight_history.h"
 #include "history.h"
 #include "rules.h"
+
+#include <string.h>
+
+void plain_state(const struct plain *m, uint8_t *state)
+{
+    if (m->length)
+        memcpy(state, m->beginning, m->length);
+    if (!work_out(m, state))
+        dd_work_out(m, state);
+}
 
 /* The counts after an accepted call, of both ports or of one, packed as in zikhrodan.h. */
 static uint32_t both_counts(const struct plain *m)
@@ -43,7 +54,7 @@ uint32_t plain_sample(struct plain *m, const uint8_t *sample, size_t sample_len)
 
     if (refusal)
         return refusal;
-    append(m, SAMPLED, 0, 0, SAMPLE_LEN, sample);
+    append_sample(m, sample);
     return both_counts(m);
 }
 
