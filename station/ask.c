@@ -3,24 +3,36 @@
 
 #include <string.h>
 
-static uint8_t *record_in(struct state *copy, uint64_t port)
+/* How far the port's bytes lie behind the operator's. */
+static size_t behind(const struct state *state, uint64_t port)
 {
-    return copy->bytes + ZIKHRODAN_IMAGE_LEN + (port - ZIKHRODAN_OPERATOR) * RECORD_LEN;
+    return (port - ZIKHRODAN_OPERATOR) * state->kind->record_len;
 }
 
 static uint32_t read_of(struct state *copy, uint64_t port, uint64_t address, uint64_t count, uint8_t *out)
 {
-    return zikhrodan_read(copy->bytes, copy->len, port, address, count, out, count);
+    return copy->kind->read(copy->bytes, copy->len, port, address, count, out, count);
+}
+
+/* Makes the flag at a place the only one of a port that is raised, and pending. */
+static void raise_alone(struct state *copy, uint64_t port, struct place at)
+{
+    const size_t runs[] = {copy->kind->flags_at, copy->kind->pending_at};
+
+    for (unsigned i = 0; i < 2; i++) {
+        uint8_t *run = copy->bytes + runs[i] + behind(copy, port);
+        memset(run, 0, copy->kind->flag_bytes);
+        run[at.byte - FLAGS_AT] = (uint8_t)(1u << at.bit);
+    }
 }
 
 /* Whether a flag that is raised alone is held back. A bit that is no flag makes the record unsound, and the read is refused. */
-static bool held_back(const struct state *state, uint64_t port, unsigned byte, unsigned bit)
+static bool held_back(const struct state *state, uint64_t port, struct place at)
 {
     struct state copy = *state;
     uint8_t first;
 
-    memset(record_in(&copy, port), 0, FLAG_BYTES);
-    record_in(&copy, port)[byte - FLAGS_AT] = (uint8_t)(1u << bit);
+    raise_alone(&copy, port, at);
     uint32_t answer = read_of(&copy, port, 0, 1, &first);
     return zikhrodan_refusal_of(answer) == ZIKHRODAN_ACCEPTED && zikhrodan_count(answer) == 0;
 }
@@ -37,30 +49,39 @@ struct port_view ask_port(const struct state *state, uint64_t port)
         return view;
     view.count = zikhrodan_count(answer);
     view.page = page;
-    read_of(&copy, port, FLAGS_AT, FLAG_BYTES, view.flags);
+    read_of(&copy, port, FLAGS_AT, state->kind->flag_bytes, view.flags);
+    memcpy(view.pending, state->bytes + state->kind->pending_at + behind(state, port), state->kind->flag_bytes);
     return view;
 }
 
-void ask_masked(const struct state *state, uint64_t port, uint8_t masked[FLAG_BYTES])
+void ask_masked(const struct state *state, uint64_t port, uint8_t masked[MOST_FLAG_BYTES])
 {
-    memset(masked, 0, FLAG_BYTES);
+    memset(masked, 0, MOST_FLAG_BYTES);
     if (ask_port(state, port).refusal != ZIKHRODAN_ACCEPTED)
         return;
-    for (unsigned i = 0; i < 8 * FLAG_BYTES; i++)
-        if (held_back(state, port, FLAGS_AT + i / 8, i % 8))
+    for (unsigned i = 0; i < 8 * state->kind->flag_bytes; i++)
+        if (held_back(state, port, (struct place){FLAGS_AT + i / 8, i % 8}))
             masked[i / 8] |= (uint8_t)(1u << i % 8);
+}
+
+bool ask_mask(const struct kind *kind, uint64_t mask_address, struct place at)
+{
+    struct state fresh = {.kind = kind, .len = kind->state_len};
+
+    kind->write(fresh.bytes, fresh.len, ZIKHRODAN_OPERATOR, mask_address, &(uint8_t){0xff}, 1);
+    return held_back(&fresh, ZIKHRODAN_OPERATOR, at);
 }
 
 /* Where the fourteen numbers of a sample are stored, two bytes each. */
 static const unsigned STORED_AT[MONITORS] = {22, 26, 34, 36, 38, 40, 42, 44, 46, 48, 50, 52, 54, 56};
 
-void ask_outside(const struct state *state, uint8_t outside[FLAG_BYTES])
+void ask_outside(const struct state *state, uint8_t outside[MOST_FLAG_BYTES])
 {
     struct state copy = *state;
     uint8_t sample[ZIKHRODAN_SAMPLE_LEN] = {0};
 
-    memset(outside, 0, FLAG_BYTES);
-    memset(record_in(&copy, ZIKHRODAN_OPERATOR), 0, PORTS * RECORD_LEN);
+    memset(outside, 0, MOST_FLAG_BYTES);
+    memset(copy.bytes + FOUR.flags_at, 0, PORTS * FOUR.record_len);
     for (unsigned m = 0; m < MONITORS; m++)
         memcpy(sample + 3 + 2 * m, state->bytes + STORED_AT[m], 2);
     if (zikhrodan_refusal_of(zikhrodan_sample(copy.bytes, copy.len, sample, sizeof sample)) == ZIKHRODAN_ACCEPTED)

@@ -2,32 +2,32 @@
  *
  * The library alone decides: which flags a mask holds back is asked by raising each alone in a copy and looking at the count,
  * what is outside its limits by feeding the stored numbers to a copy, whether a check code is right by the identity of a page
- * that has the other one right. All that is known here is where a byte lies. */
+ * that has the other one right. All that is known here is where a byte lies; of an eight-channel module zikhrodan.h names it. */
 #ifndef ASK_H
 #define ASK_H
 
-#include "names.h"
 #include "state.h"
 
 #include <stdbool.h>
 
-/* A record's length; its flags are at its front. The operator's comes after the pages, then the recorder's. */
-enum { RECORD_LEN = (ZIKHRODAN_STATE_LEN - ZIKHRODAN_IMAGE_LEN) / PORTS };
-
 struct port_view {
-    uint32_t refusal;          /* of a read by this port; where it isn't 0, the rest is 0 */
-    unsigned count;            /* raised flags that the masks let through; the interrupt stands where it isn't 0 */
-    unsigned page;             /* selected */
-    uint8_t flags[FLAG_BYTES]; /* raised */
+    uint32_t refusal;                 /* of a read by this port; where it isn't 0, the rest is 0 */
+    unsigned count;                   /* of what the masks let through; the interrupt stands where it isn't 0 */
+    unsigned page;                    /* selected */
+    uint8_t flags[MOST_FLAG_BYTES];   /* raised */
+    uint8_t pending[MOST_FLAG_BYTES]; /* the bits that the count is of: of document 01's module the flags */
 };
 struct port_view ask_port(const struct state *state, uint64_t port);
 
 /* The flags that a port's masks hold back, if they are raised or were to be. All 0 where the port is refused. */
-void ask_masked(const struct state *state, uint64_t port, uint8_t masked[FLAG_BYTES]);
+void ask_masked(const struct state *state, uint64_t port, uint8_t masked[MOST_FLAG_BYTES]);
+
+/* Whether a mask byte can hold back the flag at a place: asked of a module whose mask byte there is written full. */
+bool ask_mask(const struct kind *kind, uint64_t mask_address, struct place at);
 
 /* The limits that the stored numbers are outside of, as bits of the flag bytes; for a monitor that has measured nothing they say
  * nothing. All 0 where the library takes no such state. */
-void ask_outside(const struct state *state, uint8_t outside[FLAG_BYTES]);
+void ask_outside(const struct state *state, uint8_t outside[MOST_FLAG_BYTES]);
 
 /* Whether a page 00h has its first check code right (of bytes 128 to 190) and its second (192 to 222). */
 struct codes_view {
@@ -36,7 +36,7 @@ struct codes_view {
 struct codes_view ask_codes(const uint8_t page[ZIKHRODAN_PAGE_LEN]);
 
 /* A bit of flag bytes. */
-static inline bool bit_of(const uint8_t flags[FLAG_BYTES], unsigned byte, unsigned bit)
+static inline bool bit_of(const uint8_t *flags, unsigned byte, unsigned bit)
 {
     return flags[byte - FLAGS_AT] >> bit & 1;
 }

@@ -35,3 +35,18 @@ void day_sample(unsigned minute, uint8_t sample[ZIKHRODAN_SAMPLE_LEN])
         put(sample + 21 + 2 * line, 10000 + 20 * unrest(minute, line + 8)); /* 1 mW */
     }
 }
+
+/* The eight-channel module's, which has conditions and no numbers: from 9:12 to 17:40, and from 21:05 to 21:15, line Rx5 has lost
+ * its signal and its lock, and its light is low. */
+void eight_day_sample(unsigned minute, uint8_t sample[ZIKHRODAN_DD_SAMPLE_LEN])
+{
+    static const unsigned dark[][2] = {{9 * 60 + 12, 17 * 60 + 40}, {21 * 60 + 5, 21 * 60 + 15}};
+    static const unsigned bytes[] = {ZIKHRODAN_DD_RX_LOS, ZIKHRODAN_DD_RX_CDR_LOL, ZIKHRODAN_DD_RX_POWER_LOW_WARNING,
+                                     ZIKHRODAN_DD_RX_POWER_LOW_ALARM};
+    enum { LINE = 5 };
+
+    memset(sample, 0, ZIKHRODAN_DD_SAMPLE_LEN);
+    for (unsigned i = 0; i < sizeof dark / sizeof dark[0]; i++)
+        for (unsigned j = 0; j < sizeof bytes / sizeof bytes[0] && minute >= dark[i][0] && minute < dark[i][1]; j++)
+            sample[bytes[j] - ZIKHRODAN_DD_RX_LOS] |= 1u << (LINE - 1);
+}

@@ -2,7 +2,9 @@
 #include "ask.h"
 #include "command.h"
 #include "day.h"
+#include "demo_eight.h"
 #include "demo_keep.h"
+#include "demo_tell.h"
 #include "factory.h"
 #include "words.h"
 
@@ -13,30 +15,16 @@ enum { OPERATOR_READS = 18 * 60 };
 
 struct demo {
     struct state state;
-    unsigned counts[PORTS];             /* operator's and recorder's, as the calls report them */
-    uint8_t read[PORTS][FLAG_BYTES];    /* what each read of bytes 3 to 14 */
-    unsigned died;                      /* the minute in which both interrupts came */
+    struct told_ports ports;
+    unsigned died; /* the minute in which both interrupts came */
 };
-
-static void print_interrupt(unsigned count, int width)
-{
-    printf("%s%-*s%s", paint(count ? BAD : PLAIN), width, count ? "INTERRUPT" : "no interrupt", paint(PLAIN));
-}
-
-static void event(const struct demo *demo, unsigned minute, const char *what)
-{
-    printf("  %02u:%02u  %-44s", minute / 60, minute % 60, what);
-    print_interrupt(demo->counts[0], 14);
-    print_interrupt(demo->counts[1], 0);
-    putchar('\n');
-}
 
 static void begin(struct demo *demo)
 {
     char field[2][ZIKHRODAN_PAGE_LEN + 1] = {{0}};
     const uint8_t *page = FACTORY_IMAGE + ZIKHRODAN_PAGE_00_AT;
 
-    demo->state = (struct state){.len = ZIKHRODAN_STATE_LEN};
+    demo->state = (struct state){.kind = &FOUR, .len = FOUR.state_len};
     zikhrodan_reset(demo->state.bytes, demo->state.len, FACTORY_IMAGE, sizeof FACTORY_IMAGE);
     for (unsigned i = 0; i < 2; i++) {
         uint32_t at = zikhrodan_identity(demo->state.bytes + ZIKHRODAN_PAGE_00_AT, ZIKHRODAN_PAGE_LEN, page, ZIKHRODAN_PAGE_LEN,
@@ -45,9 +33,9 @@ static void begin(struct demo *demo)
     }
     printf("An optical module at a shore station, %s %s, has two\n"
            "management ports: the operator's, and the recorder's, which the fisheries\n"
-           "regulator has sealed. A day of samples, one a minute:\n\n"
-           "%-53soperator      recorder\n",
-           field[0], field[1], "");
+           "regulator has sealed. A day of samples, one a minute:\n\n",
+           field[0], field[1]);
+    tell_ports();
 }
 
 /* Reads bytes 3 to 14 as a port does, which clears them for that port. */
@@ -56,10 +44,11 @@ static void read_flags(struct demo *demo, uint64_t port, unsigned minute)
     unsigned i = (unsigned)port - ZIKHRODAN_OPERATOR;
     char what[NAME_ROOM];
 
-    uint32_t answer = zikhrodan_read(demo->state.bytes, demo->state.len, port, FLAGS_AT, FLAG_BYTES, demo->read[i], FLAG_BYTES);
-    demo->counts[i] = zikhrodan_count(answer);
+    uint32_t answer = zikhrodan_read(demo->state.bytes, demo->state.len, port, FLAGS_AT, FLAG_BYTES, demo->ports.read[i],
+                                     FLAG_BYTES);
+    demo->ports.counts[i] = zikhrodan_count(answer);
     snprintf(what, sizeof what, "the %s reads its flags", port_name(port));
-    event(demo, minute, what);
+    tell_event(&demo->ports, minute, what);
 }
 
 /* Feeds a minute's sample, and says when a line's light went or came back by the library's monitors. */
@@ -67,7 +56,7 @@ static void minute_passes(struct demo *demo, unsigned minute)
 {
     struct state *state = &demo->state;
     uint8_t sample[ZIKHRODAN_SAMPLE_LEN];
-    unsigned calm = demo->counts[0] + demo->counts[1] == 0;
+    unsigned calm = demo->ports.counts[0] + demo->ports.counts[1] == 0;
     double light[4];
     char what[64];
 
@@ -75,35 +64,28 @@ static void minute_passes(struct demo *demo, unsigned minute)
         light[line] = zikhrodan_monitor_value(state->bytes, state->len, ZIKHRODAN_RX_POWER_1 + line);
     day_sample(minute, sample);
     uint32_t answer = zikhrodan_sample(state->bytes, state->len, sample, sizeof sample);
-    demo->counts[0] = zikhrodan_operator_count(answer);
-    demo->counts[1] = zikhrodan_recorder_count(answer);
-    if (calm && demo->counts[0] && demo->counts[1])
+    demo->ports.counts[0] = zikhrodan_operator_count(answer);
+    demo->ports.counts[1] = zikhrodan_recorder_count(answer);
+    if (calm && demo->ports.counts[0] && demo->ports.counts[1])
         demo->died = minute;
     if (minute == 0)
-        event(demo, minute, "the first sample: all four lines are lit");
+        tell_event(&demo->ports, minute, "the first sample: all four lines are lit");
     for (unsigned line = 0; line < 4 && minute > 0; line++) {
         double now = zikhrodan_monitor_value(state->bytes, state->len, ZIKHRODAN_RX_POWER_1 + line);
         if ((light[line] == 0.0) == (now == 0.0))
             continue;
         snprintf(what, sizeof what, "line Rx%u %s (%.4f to %.4f mW)", line + 1, now == 0.0 ? "goes dark" : "is lit again",
                  light[line], now);
-        event(demo, minute, what);
+        tell_event(&demo->ports, minute, what);
     }
 }
 
 static int compare(const struct demo *demo)
 {
-    char name[NAME_ROOM];
+    int status = tell_read(&FOUR, &demo->ports);
 
-    printf("\nWhat each of them read:%-30soperator      recorder\n", "");
-    for (unsigned i = 0; i < 8 * FLAG_BYTES; i++) {
-        unsigned byte = FLAGS_AT + i / 8, bit = 7 - i % 8;
-        bool mine = bit_of(demo->read[0], byte, bit), its = bit_of(demo->read[1], byte, bit);
-        if (mine || its)
-            printf("  %-51s%-14s%s\n", flag_name(byte, bit, name, sizeof name), mine ? "raised" : "-", its ? "raised" : "-");
-    }
-    if (memcmp(demo->read[0], demo->read[1], FLAG_BYTES) != 0)
-        return fail("the two were not told the same, and should have been");
+    if (status != DONE)
+        return status;
     printf("\n%sThe line died at %02u:%02u%s, in sample %u of %u. The operator read first,\n"
            "six hours before the recorder, and both were told the same: a read clears a\n"
            "flag for the port that reads, and for no other. In the old firmware the first\n"
@@ -113,14 +95,10 @@ static int compare(const struct demo *demo)
     return DONE;
 }
 
-static int demo(int given, char **words)
+static int demo_four(void)
 {
-    const char *folder = NULL;
-    const struct option options[] = {{.name = "--keep", .value = &folder}, {0}};
     static struct demo demo;
 
-    if (!words_in(&given, words, options, 0, 0))
-        return USAGE_OR_FILE;
     begin(&demo);
     for (unsigned minute = 0; minute < DAY_MINUTES; minute++) {
         minute_passes(&demo, minute);
@@ -128,21 +106,38 @@ static int demo(int given, char **words)
             read_flags(&demo, ZIKHRODAN_OPERATOR, minute);
     }
     read_flags(&demo, ZIKHRODAN_RECORDER, DAY_MINUTES);
-    int status = compare(&demo);
-    return status == DONE && folder ? demo_keep(folder) : status;
+    return compare(&demo);
+}
+
+static int demo(int given, char **words)
+{
+    const char *folder = NULL;
+    bool eight = false;
+    const struct option options[] = {{.name = "--keep", .value = &folder}, {.name = "--eight", .flag = &eight}, {0}};
+
+    if (!words_in(&given, words, options, 0, 0))
+        return USAGE_OR_FILE;
+    int status = eight ? demo_eight() : demo_four();
+    return status == DONE && folder ? demo_keep(folder, eight) : status;
 }
 
 const struct command DEMO = {
     .name = "demo",
-    .usage = "[--keep FOLDER]",
+    .usage = "[--eight] [--keep FOLDER]",
     .brief = "shows the whole in a minute",
     .help = "Resets a module to the built-in factory image and plays a built-in day of\n"
             "samples in which a line goes dark for a while. The operator reads first, the\n"
             "recorder after; what each saw is shown side by side.\n\n"
+            "  --eight          the same with an eight-channel module: a condition that lasts\n"
+            "                   interrupts once, not at every sample, and each reader is told\n"
             "  --keep FOLDER    leaves the image, the day's rows, the module, freshly reset,\n"
-            "                   and a log of the day in FOLDER, to try the other commands on",
+            "                   and a log of the day in FOLDER, to try the other commands on;\n"
+            "                   with --eight the eight-channel module and its rows",
     .examples = "    $ zikhrodan demo --keep another | tail -n 2\n"
                 "    Kept in another: factory.image, day.rows, module.state, a module that is reset\n"
-                "    and has been fed nothing yet, and day.log, a log that has the day's samples.\n",
+                "    and has been fed nothing yet, and day.log, a log that has the day's samples.\n"
+                "    $ zikhrodan demo --eight --keep another | tail -n 2\n"
+                "    Kept in another: eight.rows, the day's rows, and eight.state, an eight-channel\n"
+                "    module that is reset and has been fed nothing yet.\n",
     .run = demo,
 };

@@ -14,8 +14,8 @@
 #include <unistd.h>
 
 enum { LOG_BLOCKS = DAY_MINUTES / ZIKHRODAN_BLOCK_SAMPLES + 10 }; /* ten are left, for who adds to it */
-static uint8_t rows[DAY_MINUTES][ZIKHRODAN_SAMPLE_LEN];
-static uint8_t state[ZIKHRODAN_STATE_LEN];
+static uint8_t rows[DAY_MINUTES][ZIKHRODAN_SAMPLE_LEN], eight_rows[DAY_MINUTES][ZIKHRODAN_DD_SAMPLE_LEN];
+static uint8_t state[ZIKHRODAN_STATE_LEN], eight_state[ZIKHRODAN_DD_STATE_LEN];
 
 /* A log's file of the day, by the steps of `log new` and `log add`; one that is not whole is gone again. */
 static int make_log(const char *name)
@@ -38,41 +38,59 @@ static int make_log(const char *name)
     return status;
 }
 
-/* The files; the log's bytes are the library's to write. */
-static const struct { const char *name; const uint8_t *bytes; size_t len; } FILES[] = {
-    {"factory.image", FACTORY_IMAGE, ZIKHRODAN_IMAGE_LEN},
-    {"day.rows", rows[0], sizeof rows},
-    {"module.state", state, sizeof state},
-    {"day.log", NULL, 0},
+/* The files of each demo, and what is said of them; the log's bytes are the library's to write. */
+static const struct kept {
+    struct { const char *name; const uint8_t *bytes; size_t len; } files[4]; /* up to one that has no name */
+    const char *words;
+} FOUR_KEPT = {
+    {{"factory.image", FACTORY_IMAGE, ZIKHRODAN_IMAGE_LEN},
+     {"day.rows", rows[0], sizeof rows},
+     {"module.state", state, sizeof state},
+     {"day.log", NULL, 0}},
+    "factory.image, day.rows, module.state, a module that is reset\n"
+    "and has been fed nothing yet, and day.log, a log that has the day's samples.",
+}, EIGHT_KEPT = {
+    {{"eight.rows", eight_rows[0], sizeof eight_rows}, {"eight.state", eight_state, sizeof eight_state}},
+    "eight.rows, the day's rows, and eight.state, an eight-channel\n"
+    "module that is reset and has been fed nothing yet.",
 };
-enum { KEPT = sizeof FILES / sizeof FILES[0] };
+enum { KEPT = sizeof FOUR_KEPT.files / sizeof FOUR_KEPT.files[0] };
+
+static void make_bytes(void)
+{
+    zikhrodan_reset(state, sizeof state, FACTORY_IMAGE, sizeof FACTORY_IMAGE);
+    zikhrodan_dd_reset(eight_state, sizeof eight_state);
+    for (unsigned minute = 0; minute < DAY_MINUTES; minute++) {
+        day_sample(minute, rows[minute]);
+        eight_day_sample(minute, eight_rows[minute]);
+    }
+}
 
 /* A file of the folder: made, or first looked for, which is an error: nothing that is there is replaced. */
-static int keep_file(const char *folder, unsigned file, bool look)
+static int keep_file(const struct kept *kept, const char *folder, unsigned file, bool look)
 {
     char name[PATH_MAX];
 
-    if (snprintf(name, sizeof name, "%s/%s", folder, FILES[file].name) >= (int)sizeof name)
+    if (!kept->files[file].name)
+        return DONE;
+    if (snprintf(name, sizeof name, "%s/%s", folder, kept->files[file].name) >= (int)sizeof name)
         return fail("%s: the name is too long", folder);
     if (look)
         return lstat(name, &(struct stat){0}) == 0 ? fail("%s is there already, and is not replaced", name) : DONE;
-    return FILES[file].bytes ? replace(name, name, FILES[file].bytes, FILES[file].len, NULL) : make_log(name);
+    return kept->files[file].bytes ? replace(name, name, kept->files[file].bytes, kept->files[file].len, NULL) : make_log(name);
 }
 
-int demo_keep(const char *folder)
+int demo_keep(const char *folder, bool eight)
 {
+    const struct kept *kept = eight ? &EIGHT_KEPT : &FOUR_KEPT;
     int status = DONE;
 
     if (mkdir(folder, 0777) != 0 && errno != EEXIST)
         return fail_errno(folder);
-    zikhrodan_reset(state, sizeof state, FACTORY_IMAGE, sizeof FACTORY_IMAGE);
-    for (unsigned minute = 0; minute < DAY_MINUTES; minute++)
-        day_sample(minute, rows[minute]);
+    make_bytes();
     for (unsigned i = 0; i < 2 * KEPT && status == DONE; i++)
-        status = keep_file(folder, i % KEPT, i < KEPT);
+        status = keep_file(kept, folder, i % KEPT, i < KEPT);
     if (status == DONE)
-        printf("\nKept in %s: factory.image, day.rows, module.state, a module that is reset\n"
-               "and has been fed nothing yet, and day.log, a log that has the day's samples.\n",
-               folder);
+        printf("\nKept in %s: %s\n", folder, kept->words);
     return status;
 }

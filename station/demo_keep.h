@@ -2,8 +2,11 @@
 #ifndef DEMO_KEEP_H
 #define DEMO_KEEP_H
 
+#include <stdbool.h>
+
 /* Leaves the image, the day's rows, a module that is reset to the image, and a log of the day in a folder, which is made if it is
- * not there. Where one of the files is there, none is made. Gives the exit status, with what was done or went wrong said. */
-int demo_keep(const char *folder);
+ * not there; or, of `eight`, the day's rows and a module that is reset. Where one of the files is there, none is made. Gives the
+ * exit status, with what was done or went wrong said. */
+int demo_keep(const char *folder, bool eight);
 
 #endif

@@ -29,7 +29,7 @@ static uint32_t hand(struct feed *feed, const uint8_t *row, size_t len, const ch
 
     if (feed->name) {
         *whose = feed->name;
-        answer = zikhrodan_sample(feed->state.bytes, feed->state.len, row, len);
+        answer = feed->kind->sample(feed->state.bytes, feed->state.len, row, len);
         if (zikhrodan_refusal_of(answer) != ZIKHRODAN_ACCEPTED)
             return zikhrodan_refusal_of(answer);
     }
@@ -54,9 +54,9 @@ static int feed_row(struct feed *feed, const uint8_t *row, size_t len)
     if (refusal != ZIKHRODAN_ACCEPTED)
         feed->state = before;
     if (refusal == ZIKHRODAN_SAMPLE_SIZE)
-        return refused(refusal, "%s: row %" PRIu64, feed->rows.name, feed->rows.row);
+        return refused_by(feed->kind, refusal, "%s: row %" PRIu64, feed->rows.name, feed->rows.row);
     if (refusal != ZIKHRODAN_ACCEPTED)
-        return refused(refusal, "%s: at row %" PRIu64 " of %s", whose, feed->rows.row, feed->rows.name);
+        return refused_by(feed->kind, refusal, "%s: at row %" PRIu64 " of %s", whose, feed->rows.row, feed->rows.name);
     feed->taken++;
     progress(feed->taken);
     return feed->tell ? feed->tell(feed, &before) : DONE;
@@ -64,7 +64,7 @@ static int feed_row(struct feed *feed, const uint8_t *row, size_t len)
 
 static int open_both(struct feed *feed)
 {
-    int status = feed->name ? state_open(&feed->state, feed->name, IS_ERROR) : DONE;
+    int status = feed->name ? state_open(&feed->state, feed->name, feed->kind, IS_ERROR) : DONE;
 
     if (status != DONE || !feed->log.name || (status = log_begin(&feed->log)) == DONE)
         return status;
@@ -118,17 +118,21 @@ static int feed_batch(struct feed *feed, const uint8_t *row, size_t len)
     return saved;
 }
 
-/* The counts of a state that is fed nothing, and whether the log can be had. */
+/* Which module it is, the counts of a state that is fed nothing, and whether the log can be had. */
 static int look(struct feed *feed)
 {
-    int status = feed->name ? state_peek(&feed->state, feed->name) : DONE;
+    int status = feed->name ? state_peek(&feed->state, feed->name, NULL) : DONE;
 
+    feed->kind = feed->name ? feed->state.kind : &FOUR;
     for (unsigned i = 0; i < 2 && feed->name && status == DONE; i++) {
         struct port_view view = ask_port(&feed->state, ZIKHRODAN_OPERATOR + i);
         if (view.refusal != ZIKHRODAN_ACCEPTED)
-            status = refused(view.refusal, "%s", feed->name);
+            status = refused_by(feed->kind, view.refusal, "%s", feed->name);
         feed->counts[i] = view.count;
     }
+    if (status == DONE && feed->log.name && feed->kind->sample_len != FOUR.sample_len)
+        status = fail("%s: a log keeps samples of %zu bytes, and an eight-channel module's are %zu", feed->name, FOUR.sample_len,
+                      feed->kind->sample_len);
     if (status == DONE && feed->log.name && (status = log_begin(&feed->log)) == DONE)
         log_end(&feed->log);
     return status;
@@ -138,7 +142,7 @@ static void summary(const struct feed *feed)
 {
     printf("%" PRIu64 " row%s taken\n", feed->taken, plural(feed->taken));
     for (unsigned i = 0; i < 2 && feed->name; i++) {
-        say_count(ZIKHRODAN_OPERATOR + i, feed->counts[i]);
+        say_count(feed->kind, ZIKHRODAN_OPERATOR + i, feed->counts[i]);
         putchar('\n');
     }
     if (feed->log.name)
@@ -152,7 +156,7 @@ int feed_all(struct feed *feed, char **names, int count)
     int more = 1, status = look(feed);
 
     if (status == DONE)
-        status = rows_begin(&feed->rows, names, count);
+        status = rows_begin(&feed->rows, names, count, feed->kind->sample_len);
     while (status == DONE && more > 0 && (more = rows_next(&feed->rows, &row, &len)) > 0)
         status = feed_batch(feed, row, len);
     wipe();

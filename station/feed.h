@@ -8,6 +8,7 @@
 
 struct feed {
     const char *name;        /* the state's; null where there is a log alone */
+    const struct kind *kind; /* of the module that takes the rows; a log's rows are document 01's */
     struct logfile log;      /* its name is null where there is none; else it begins as log_begin wants it */
     struct rows rows;
     struct state state;

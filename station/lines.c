@@ -9,7 +9,7 @@
 
 char *line_name(unsigned bit, char *name, size_t room)
 {
-    return flag_name(FLAGS_AT + bit / 8, bit % 8, name, room);
+    return flag_name(flag_at(FLAGS_AT + bit / 8, bit % 8), name, room);
 }
 
 const char *line_kept(unsigned bit)

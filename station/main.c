@@ -23,9 +23,10 @@ static void help(void)
          "proved library decides; this tool asks and prints.\n");
     list(COMMANDS, 7, 33);
     puts("\n"
-         "STATE is a file of 688 bytes, a module's memory; PORT is operator (1) or\n"
-         "recorder (2); numbers are decimal, or hex after 0x. An image or rows in a file\n"
-         "whose name ends in .hex are text: two hex digits for each byte.\n"
+         "STATE is a file, a module's memory: of 688 bytes, or of 98, which is an\n"
+         "eight-channel module's. PORT is operator (1) or recorder (2); numbers are\n"
+         "decimal, or hex after 0x. An image or rows in a file whose name ends in .hex\n"
+         "are text: two hex digits for each byte.\n"
          "Exit status: 0 done; 1 refused by the library, with the refusal's number; 2\n"
          "usage or file. `zikhrodan COMMAND --help` has examples.\n\n"
          "Start with: zikhrodan demo");

@@ -7,7 +7,8 @@ const struct state *factory_module(void)
     static struct state module;
 
     if (module.len == 0) {
-        module.len = ZIKHRODAN_STATE_LEN;
+        module.kind = &FOUR;
+        module.len = FOUR.state_len;
         zikhrodan_reset(module.bytes, module.len, FACTORY_IMAGE, sizeof FACTORY_IMAGE);
     }
     return &module;

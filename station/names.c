@@ -62,17 +62,18 @@ struct flag flag_at(unsigned byte, unsigned bit)
     };
 }
 
-char *flag_name(unsigned byte, unsigned bit, char *name, size_t room)
+char *flag_name(struct flag flag, char *name, size_t room)
 {
-    struct flag flag = flag_at(byte, bit);
     char number[NAME_ROOM];
 
     if (!flag.of)
-        snprintf(name, room, "byte %u bit %u", byte, bit);
-    else if (flag.limit < 0)
+        snprintf(name, room, "no flag");
+    else if (flag.limit >= 0)
+        snprintf(name, room, "%s %s", monitor_name(flag.monitor, number, sizeof number), LIMIT_NAMES[flag.limit]);
+    else if (flag.channel > 0)
         snprintf(name, room, "%.2s%u%s", flag.of, flag.channel, flag.of + 2);
     else
-        snprintf(name, room, "%s %s", monitor_name(flag.monitor, number, sizeof number), LIMIT_NAMES[flag.limit]);
+        snprintf(name, room, "%s", flag.of);
     return name;
 }
 

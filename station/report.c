@@ -60,7 +60,7 @@ static int find_module(struct report *report, const char *name)
     report->module_name = name;
     if (!name)
         report->module = *factory_module();
-    int status = name ? state_peek(&report->module, name) : DONE;
+    int status = name ? state_peek(&report->module, name, &FOUR) : DONE;
     for (unsigned i = 0; i < 2 && status == DONE; i++) {
         uint32_t refusal = zikhrodan_limits_refusal(report->module.bytes, report->module.len, quantities[i]);
         status = refusal != ZIKHRODAN_ACCEPTED ? refused(refusal, "%s", module_words(report)) : DONE;

@@ -8,13 +8,11 @@
 #include <string.h>
 #include <unistd.h>
 
-enum { ROW = ZIKHRODAN_SAMPLE_LEN };
-
-int rows_begin(struct rows *rows, char **names, int count)
+int rows_begin(struct rows *rows, char **names, int count, size_t whole)
 {
     static char *standard_input[] = {"-"};
 
-    *rows = (struct rows){.names = count ? names : standard_input, .left = count ? count : 1, .fd = -1};
+    *rows = (struct rows){.names = count ? names : standard_input, .left = count ? count : 1, .whole = whole, .fd = -1};
     for (int i = 0; i < rows->left; i++)
         if (strcmp(rows->names[i], "-") == 0 && isatty(STDIN_FILENO))
             return fail("standard input is a terminal: name a file of rows, or pipe rows in");
@@ -72,9 +70,9 @@ int rows_next(struct rows *rows, const uint8_t **row, size_t *len)
             return 0;
         if (rows->fd < 0 && open_next(rows) != 0)
             return -1;
-        while (!rows->ended && !rows->broken && rows->len - rows->at < ROW)
+        while (!rows->ended && !rows->broken && rows->len - rows->at < rows->whole)
             fetch(rows);
-        if (rows->broken && rows->len - rows->at < ROW) {
+        if (rows->broken && rows->len - rows->at < rows->whole) {
             say_broken(rows);
             return -1;
         }
@@ -83,7 +81,7 @@ int rows_next(struct rows *rows, const uint8_t **row, size_t *len)
         close_file(rows);
     }
     *row = rows->bytes + rows->at;
-    *len = rows->len - rows->at < ROW ? rows->len - rows->at : ROW;
+    *len = rows->len - rows->at < rows->whole ? rows->len - rows->at : rows->whole;
     rows->at += *len;
     rows->row++;
     return 1;
@@ -93,12 +91,12 @@ bool rows_ready(struct rows *rows)
 {
     struct pollfd waiting = {.fd = rows->fd, .events = POLLIN};
 
-    while (rows->len - rows->at < ROW && !rows->ended && !rows->broken) {
+    while (rows->len - rows->at < rows->whole && !rows->ended && !rows->broken) {
         if (poll(&waiting, 1, 0) <= 0)
             return false;
         fetch(rows);
     }
-    return rows->len - rows->at >= ROW || (rows->len > rows->at && !rows->broken);
+    return rows->len - rows->at >= rows->whole || (rows->len > rows->at && !rows->broken);
 }
 
 void rows_end(struct rows *rows)

@@ -1,4 +1,4 @@
-/* rows.h: samples, one after the other, from files or standard input: rows of 31 bytes, or, in a ".hex", the same as text.
+/* rows.h: samples, one after the other, from files or standard input: rows of one length, or, in a ".hex", the same as text.
  *
  * What is left at the end of a file, if less than a row, is handed out as it is: the library refuses it by its length. */
 #ifndef ROWS_H
@@ -7,11 +7,11 @@
 #include "files.h"
 
 #include <stdint.h>
-#include <zikhrodan.h>
 
 struct rows {
     char **names; /* files, "-" for standard input */
     int left;     /* names not begun */
+    size_t whole; /* a row's length */
     const char *name;
     uint64_t row; /* the row last handed out, of its file, from 1 */
     int fd;       /* -1 where no file is open */
@@ -20,11 +20,12 @@ struct rows {
     int why;
     struct hex hex;
     size_t at, len; /* what of the bytes is not handed out yet */
-    uint8_t bytes[2048 * ZIKHRODAN_SAMPLE_LEN];
+    uint8_t bytes[1 << 16];
 };
 
-/* Rows from these files; from standard input where there are none. Gives 0, or an exit status with the error said. */
-int rows_begin(struct rows *rows, char **names, int count);
+/* Rows of `whole` bytes, far fewer than there is room for, from these files; from standard input where there are none. Gives 0,
+ * or an exit status with the error said. */
+int rows_begin(struct rows *rows, char **names, int count, size_t whole);
 
 /* The next row, waiting for it: 1; at the end 0; -1 with the error said. The bytes stay until the next call. */
 int rows_next(struct rows *rows, const uint8_t **row, size_t *len);

@@ -19,16 +19,19 @@ static int sample(int given, char **words)
 const struct command SAMPLE = {
     .name = "sample",
     .usage = "[--log FILE] STATE [ROWS.. | -]",
-    .brief = "feeds samples: rows of 31 bytes",
+    .brief = "feeds samples, rows of 31 bytes or 14",
     .help = "Feeds the rows of files, or of standard input, to the module, one after the\n"
             "other, and says how many were taken and how many flags each port's masks let\n"
-            "through. A row that the library refuses ends it, with the row's number; the\n"
-            "state is then that of the row before. On a terminal a long input shows how far\n"
-            "it is. The state is saved at the end of each file and, from a pipe, whenever it\n"
-            "pauses, so that rows can come in all day long while others read the state.\n\n"
+            "through. A row is 31 bytes, an eight-channel module's 14: a condition byte for\n"
+            "each of its flag bytes. A row that the library refuses ends it, with the row's\n"
+            "number; the state is then that of the row before. On a terminal a long input\n"
+            "shows how far it is. The state is saved at the end of each file and, from a\n"
+            "pipe, whenever it pauses, so that rows can come in all day long while others\n"
+            "read the state.\n\n"
             "  --log FILE    the rows go into a log too (`zikhrodan log`): row by row, and a\n"
             "                row that either refuses neither has. The log is committed before\n"
-            "                the state is saved, so that it is never behind",
+            "                the state is saved, so that it is never behind. An eight-channel\n"
+            "                module's rows go into no log",
     .examples = "    $ zikhrodan sample trial/module.state trial/day.rows\n"
                 "    1440 rows taken\n"
                 "    operator: 3 flags let through, interrupt\n"
@@ -45,6 +48,13 @@ const struct command SAMPLE = {
                 "    1440 rows taken\n"
                 "    operator: 3 flags let through, interrupt\n"
                 "    recorder: 3 flags let through, interrupt\n"
-                "    trial/own.log: 90 of 90 blocks used\n",
+                "    trial/own.log: 90 of 90 blocks used\n"
+                "    $ zikhrodan demo --eight --keep trial | tail -n 2\n"
+                "    Kept in trial: eight.rows, the day's rows, and eight.state, an eight-channel\n"
+                "    module that is reset and has been fed nothing yet.\n"
+                "    $ zikhrodan sample trial/eight.state trial/eight.rows\n"
+                "    1440 rows taken\n"
+                "    operator (eight channels): 4 pending flags let through, interrupt\n"
+                "    recorder (eight channels): 4 pending flags let through, interrupt\n",
     .run = sample,
 };

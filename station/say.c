@@ -1,5 +1,6 @@
 /* say.c: see say.h. */
 #include "say.h"
+#include "kind.h"
 #include "words.h"
 
 #include <errno.h>
@@ -10,7 +11,6 @@
 #include <stdlib.h>
 #include <string.h>
 #include <unistd.h>
-#include <zikhrodan.h>
 
 /* How wide the line is that stands on the terminal to be written over; 0 where none does. */
 static int passing;
@@ -53,15 +53,32 @@ int fail_errno(const char *name)
     return fail("%s: %s", name, strerror(errno));
 }
 
+/* The line's beginning, and then the refusal. */
+static int end_refused(const struct kind *kind, uint32_t refusal, const char *of, va_list words)
+{
+    begin_error(of, words);
+    fprintf(stderr, ": refused %u, %s\n", refusal, kind->words(refusal));
+    return REFUSED;
+}
+
+int refused_by(const struct kind *kind, uint32_t refusal, const char *of, ...)
+{
+    va_list words;
+
+    va_start(words, of);
+    int status = end_refused(kind, refusal, of, words);
+    va_end(words);
+    return status;
+}
+
 int refused(uint32_t refusal, const char *of, ...)
 {
     va_list words;
 
     va_start(words, of);
-    begin_error(of, words);
+    int status = end_refused(&FOUR, refusal, of, words);
     va_end(words);
-    fprintf(stderr, ": refused %u, %s\n", refusal, zikhrodan_words(refusal));
-    return REFUSED;
+    return status;
 }
 
 int finished(int status)
@@ -92,13 +109,13 @@ const char *plural(uint64_t number)
     return number == 1 ? "" : "s";
 }
 
-void say_refusal(uint32_t refusal)
+void say_refusal(const struct kind *kind, uint32_t refusal)
 {
-    printf("%srefused %u, %s%s\n", paint(BAD), refusal, zikhrodan_words(refusal), paint(PLAIN));
+    printf("%srefused %u, %s%s\n", paint(BAD), refusal, kind->words(refusal), paint(PLAIN));
 }
 
-void say_count(uint64_t port, unsigned count)
+void say_count(const struct kind *kind, uint64_t port, unsigned count)
 {
-    printf("%s%s%s: %u flag%s let through, %s%s%s", paint(STRONG), port_name(port), paint(PLAIN), count, plural(count),
-           paint(count ? BAD : PLAIN), count ? "interrupt" : "no interrupt", paint(PLAIN));
+    printf("%s%s%s%s: %u %sflag%s let through, %s%s%s", paint(STRONG), port_name(port), paint(PLAIN), kind->aside, count,
+           kind->counted, plural(count), paint(count ? BAD : PLAIN), count ? "interrupt" : "no interrupt", paint(PLAIN));
 }

@@ -4,6 +4,8 @@
 
 #include <stdint.h>
 
+struct kind;
+
 enum { DONE = 0, REFUSED = 1, USAGE_OR_FILE = 2 };
 
 /* One line on standard error, "zikhrodan: ..". Gives USAGE_OR_FILE. */
@@ -12,7 +14,9 @@ int fail(const char *format, ...) __attribute__((format(printf, 1, 2)));
 /* The same with what errno says. */
 int fail_errno(const char *name);
 
-/* One line on standard error with the library's refusal in number and words, after what it is of. Gives REFUSED. */
+/* One line on standard error with the library's refusal in number and words, after what it is of. Gives REFUSED. The words are
+ * those for a call of this kind of module; of a log, an image or a question, document 01's. */
+int refused_by(const struct kind *kind, uint32_t refusal, const char *of, ...) __attribute__((format(printf, 3, 4)));
 int refused(uint32_t refusal, const char *of, ...) __attribute__((format(printf, 2, 3)));
 
 /* Standard output is written out; where that fails, it is said, once. Gives `status`, or USAGE_OR_FILE where it just failed. */
@@ -31,9 +35,10 @@ const char *paint(enum colour colour);
 const char *plural(uint64_t number);
 
 /* "refused 3, .." and the end of line, on standard output: of a part, where the rest is shown. */
-void say_refusal(uint32_t refusal);
+void say_refusal(const struct kind *kind, uint32_t refusal);
 
-/* "operator: 3 flags let through, interrupt": a port's count, and whether its interrupt stands; no end of line. */
-void say_count(uint64_t port, unsigned count);
+/* "operator: 3 flags let through, interrupt": a port's count, and whether its interrupt stands; no end of line. Of an
+ * eight-channel module: "operator (eight channels): 3 pending flags let through, interrupt". */
+void say_count(const struct kind *kind, uint64_t port, unsigned count);
 
 #endif

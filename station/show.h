@@ -4,13 +4,19 @@
 
 #include "ask.h"
 
-enum { CHANNELS = 4, FIELDS = ZIKHRODAN_DATE_CODE + 1 };
+enum { FIELDS = ZIKHRODAN_DATE_CODE + 1 };
+
+/* The words after the state. */
+struct wanted {
+    const char *port, *factory;
+    bool raised, all, json, hex;
+};
 
 /* A port, and what it would read. */
 struct shown_port {
     uint64_t number;
     struct port_view view;
-    uint8_t masked[FLAG_BYTES];
+    uint8_t masked[MOST_FLAG_BYTES];
 };
 
 struct shown_identity {
@@ -22,14 +28,16 @@ struct shown_identity {
 };
 
 struct shown {
-    struct state state; /* 688 bytes, as the library has been asked */
+    struct state state; /* as the library has been asked */
     struct shown_port ports[PORTS];
     unsigned port_count; /* the ports shown: both, or one */
+    const uint8_t *conditions; /* of the last sample, as bits of the flag bytes; null where a module keeps none: document 01's */
+    /* of document 01's module alone: */
     struct shown_identity identity;
     enum zikhrodan_kind kinds[MONITORS];
     double values[MONITORS];
     double limits[QUANTITIES][LIMITS];
-    uint8_t outside[FLAG_BYTES]; /* as ask_outside has it; 0 for a monitor that has measured nothing */
+    uint8_t outside[MOST_FLAG_BYTES]; /* as ask_outside has it; 0 for a monitor that has measured nothing */
 };
 
 static inline bool answered(const struct shown_port *port)
@@ -37,19 +45,23 @@ static inline bool answered(const struct shown_port *port)
     return port->view.refusal == ZIKHRODAN_ACCEPTED;
 }
 
-/* A flag by its place. */
-struct place {
-    unsigned byte, bit;
-};
+/* Each kind of module, in the form that is wanted, once its ports are asked. Gives the exit status, with what is wrong with the
+ * words said; what was refused is said by the caller. */
+int show_four(struct shown *shown, const struct wanted *wanted);
+int show_eight(struct shown *shown, const struct wanted *wanted);
 
-/* The places of the flags that differ from this one in their channel alone, from channel 1 on; gives how many, four or one. */
-unsigned channels_of(struct flag flag, struct place places[CHANNELS]);
+/* The flags port by port, and a line for each port: all flags, those with something to tell, or those raised alone. */
+enum which_flags { RAISED_FLAGS, TELLING_FLAGS, ALL_FLAGS };
+enum which_flags which_flags(const struct wanted *wanted);
+void show_flags(const struct shown *shown, enum which_flags which);
 
-/* The forms. `show_flags` has the flags raised or masked, or those raised alone, and a line for each port; `show_text` ends with
- * it. `show_hex` has what the one port reads, or all bytes as they lie. */
-void show_text(const struct shown *shown);
-void show_flags(const struct shown *shown, bool raised_alone);
+/* The other forms. `show_hex` has what the one port reads, or all bytes as they lie. */
+void show_text(const struct shown *shown, enum which_flags which);
 void show_json(const struct shown *shown);
 void show_hex(const struct shown *shown, bool one_port);
+void show_eight_json(const struct shown *shown);
+
+/* What a hex form has of a port, after its title: the end of line, or the refusal and the end of line. */
+void end_title(const struct shown *shown, const struct shown_port *port);
 
 #endif

@@ -1,68 +1,21 @@
-/* show_flags.c: flags port by port, in document 01's order, and a line for each port. Channels that are alike share a row. */
+/* show_flags.c: flags port by port, in the document's order, and a line for each port. */
 #include "say.h"
-#include "show.h"
+#include "show_rows.h"
 #include "words.h"
 
 #include <stdio.h>
 #include <string.h>
 
-struct row {
-    struct place at;
-    bool all; /* of the four channels; `at` is the first one's */
-};
-
-static const char *cell(const struct shown_port *port, struct place at)
-{
-    static const char *const words[2][2] = {{"-", "masked"}, {"raised", "raised, masked"}};
-
-    return words[bit_of(port->view.flags, at.byte, at.bit)][bit_of(port->masked, at.byte, at.bit)];
-}
-
-/* Whether there are several channels, and each port has one cell for all of them. */
-static bool alike(const struct shown *shown, const struct place *places, unsigned count)
-{
-    for (unsigned i = 0; i < count * shown->port_count; i++) {
-        const struct shown_port *port = &shown->ports[i / count];
-        if (cell(port, places[i % count]) != cell(port, places[0]))
-            return false;
-    }
-    return count > 1;
-}
-
-static bool is_shown(const struct shown *shown, struct place at, bool raised_alone)
-{
-    for (unsigned i = 0; i < shown->port_count; i++) {
-        const struct shown_port *port = &shown->ports[i];
-        if (bit_of(port->view.flags, at.byte, at.bit) || (!raised_alone && bit_of(port->masked, at.byte, at.bit)))
-            return true;
-    }
-    return false;
-}
-
-static unsigned rows_of(const struct shown *shown, bool raised_alone, struct row rows[8 * FLAG_BYTES])
-{
-    unsigned count = 0;
-
-    for (unsigned i = 0; i < 8 * FLAG_BYTES; i++) {
-        struct place at = {FLAGS_AT + i / 8, 7 - i % 8}, places[CHANNELS];
-        struct flag flag = flag_at(at.byte, at.bit);
-        if (!flag.of || !is_shown(shown, at, raised_alone))
-            continue;
-        bool all = alike(shown, places, channels_of(flag, places));
-        if (!all || flag.channel == 1)
-            rows[count++] = (struct row){at, all};
-    }
-    return count;
-}
-
 /* "Rx power 1 low alarm" is, for all channels, "Rx power 1-4 low alarm". */
-static void row_name(const struct row *row)
+static void row_name(const struct kind *kind, const struct row *row)
 {
-    char name[NAME_ROOM], whole[NAME_ROOM + 2];
+    char name[NAME_ROOM], all[8] = "", whole[sizeof name + sizeof all];
 
-    flag_name(row->at.byte, row->at.bit, name, sizeof name);
+    flag_name(kind->flag_at(row->at.byte, row->at.bit), name, sizeof name);
     const char *rest = row->all ? strchr(name, '1') + 1 : name + strlen(name);
-    snprintf(whole, sizeof whole, "%.*s%s%s", (int)(rest - name), name, row->all ? "-4" : "", rest);
+    if (row->all)
+        snprintf(all, sizeof all, "-%u", kind->channels);
+    snprintf(whole, sizeof whole, "%.*s%s%s", (int)(rest - name), name, all, rest);
     printf("  %-27s", whole);
 }
 
@@ -71,23 +24,25 @@ static void column(const struct shown *shown, unsigned port, enum colour colour,
 {
     bool last = port + 1 == shown->port_count || !answered(&shown->ports[port + 1]);
 
-    printf("%s%-*s%s", paint(colour), last ? 0 : 16, words, paint(PLAIN));
+    printf("%s%-*s%s", paint(colour), last ? 0 : shown->state.kind->cell, words, paint(PLAIN));
 }
 
 static void print_row(const struct shown *shown, const struct row *row)
 {
-    row_name(row);
+    row_name(shown->state.kind, row);
+    if (shown->conditions)
+        printf("%-11s", stands(shown, row->at) ? "stands" : "-");
     for (unsigned i = 0; i < shown->port_count; i++) {
         const struct shown_port *port = &shown->ports[i];
         if (answered(port))
-            column(shown, i, bit_of(port->view.flags, row->at.byte, row->at.bit) ? BAD : FAINT, cell(port, row->at));
+            column(shown, i, bit_of(port->view.flags, row->at.byte, row->at.bit) ? BAD : FAINT, cell(shown, port, row->at));
     }
     putchar('\n');
 }
 
 static void table(const struct shown *shown, const struct row *rows, unsigned count)
 {
-    printf("%s%-29s%s", paint(STRONG), "flags", paint(PLAIN));
+    printf("%s%-29s%s%s", paint(STRONG), "flags", shown->conditions ? "condition  " : "", paint(PLAIN));
     for (unsigned i = 0; i < shown->port_count; i++)
         if (answered(&shown->ports[i]))
             column(shown, i, STRONG, port_name(shown->ports[i].number));
@@ -105,31 +60,47 @@ static unsigned answers(const struct shown *shown)
     return count;
 }
 
-static void port_line(const struct shown_port *port)
+static void port_line(const struct kind *kind, const struct shown_port *port)
 {
     const struct port_view *view = &port->view;
 
-    if (answered(port)) {
-        say_count(port->number, view->count);
-        printf(", page %02Xh selected\n", view->page);
-    } else {
-        printf("%s%s%s: ", paint(STRONG), port_name(port->number), paint(PLAIN));
-        say_refusal(view->refusal);
+    if (!answered(port)) {
+        printf("%s%s%s%s: ", paint(STRONG), port_name(port->number), paint(PLAIN), kind->aside);
+        say_refusal(kind, view->refusal);
+        return;
     }
+    say_count(kind, port->number, view->count);
+    if (kind == &FOUR)
+        printf(", page %02Xh selected", view->page);
+    putchar('\n');
 }
 
-void show_flags(const struct shown *shown, bool raised_alone)
+/* What is said where there is no row, or, of the eight-channel module, of the flags that have none. */
+static void rest_line(const struct shown *shown, enum which_flags which, unsigned rows, unsigned others)
 {
-    struct row rows[8 * FLAG_BYTES];
-    unsigned count = rows_of(shown, raised_alone, rows);
+    const char *whose = answers(shown) < shown->port_count ? " (of the port that is not refused)" : "";
+
+    if (rows == 0 && which == RAISED_FLAGS)
+        printf("no flag is raised%s\n", whose);
+    else if (rows == 0 && !shown->conditions)
+        printf("flags: none raised, none masked%s\n", whose);
+    else if (rows == 0)
+        printf("flags: no condition stands, none of %u raised, pending or masked%s\n", others, whose);
+    else if (shown->conditions && which == TELLING_FLAGS && others > 0)
+        printf("  %u other flag%s: no condition stands, none raised, pending or masked (--all lists them)\n", others, plural(others));
+}
+
+void show_flags(const struct shown *shown, enum which_flags which)
+{
+    struct row rows[MOST_FLAGS];
+    unsigned others, count = rows_of(shown, which, rows, &others);
 
     if (count > 0)
         table(shown, rows, count);
-    else if (answers(shown) > 0)
-        printf("%s%s\n", raised_alone ? "no flag is raised" : "flags: none raised, none masked",
-               answers(shown) < shown->port_count ? " (of the port that is not refused)" : "");
-    if (answers(shown) > 0 && !raised_alone)
+    if (answers(shown) > 0)
+        rest_line(shown, which, count, others);
+    if (answers(shown) > 0 && which != RAISED_FLAGS)
         putchar('\n');
     for (unsigned i = 0; i < shown->port_count; i++)
-        port_line(&shown->ports[i]);
+        port_line(shown->state.kind, &shown->ports[i]);
 }

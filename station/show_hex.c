@@ -13,13 +13,13 @@ static void page_title(unsigned page)
     printf("\n%spage %02Xh: %s%s\n", paint(STRONG), page, PAGE_TITLES[page], paint(PLAIN));
 }
 
-static void refusal_after(const struct shown_port *port)
+void end_title(const struct shown *shown, const struct shown_port *port)
 {
     if (answered(port)) {
         putchar('\n');
     } else {
         fputs(": ", stdout);
-        say_refusal(port->view.refusal);
+        say_refusal(shown->state.kind, port->view.refusal);
     }
 }
 
@@ -35,8 +35,8 @@ static void as_they_lie(const struct shown *shown)
     }
     for (unsigned i = 0; i < PORTS; i++) {
         printf("\n%s%s's record%s", paint(STRONG), port_name(shown->ports[i].number), paint(PLAIN));
-        refusal_after(&shown->ports[i]);
-        dump(bytes + ZIKHRODAN_IMAGE_LEN + i * RECORD_LEN, RECORD_LEN, 0);
+        end_title(shown, &shown->ports[i]);
+        dump(bytes + FOUR.flags_at + i * FOUR.record_len, FOUR.record_len, 0);
     }
 }
 
@@ -71,7 +71,7 @@ static void as_read(const struct shown *shown)
     uint8_t lower[ZIKHRODAN_PAGE_LEN];
 
     printf("%slower memory%s, as the %s reads it", paint(STRONG), paint(PLAIN), port_name(port->number));
-    refusal_after(port);
+    end_title(shown, port);
     if (!answered(port))
         return;
     read_run(&copy, port->number, 0, lower, sizeof lower);

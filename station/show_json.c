@@ -39,8 +39,8 @@ static void field_value(struct json *json, const struct shown_identity *identity
 
 static void flag_values(struct json *json, const struct shown_port *port, struct flag flag)
 {
-    struct place places[CHANNELS];
-    unsigned count = channels_of(flag, places);
+    struct place places[MOST_CHANNELS];
+    unsigned count = channels_of(&FOUR, flag, places);
 
     if (!answered(port)) {
         json_null(json);

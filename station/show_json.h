@@ -8,7 +8,11 @@
 /* The four limits of a quantity, as ethtool has them. */
 void json_limits(struct json *json, const char *key, const double limits[LIMITS]);
 
-/* The object "zikhrodan". */
+/* What both kinds have of a port in the object "zikhrodan": how many channels, which port, what is refused, the count, the
+ * interrupt. */
+void json_port(struct json *json, const struct shown *shown, const struct shown_port *port);
+
+/* The object "zikhrodan" of document 01's module. */
 void json_ours(struct json *json, const struct shown *shown, const struct shown_port *port);
 
 #endif

@@ -2,12 +2,12 @@
 #include "show_json.h"
 #include "words.h"
 
-static void refusal(struct json *json, uint32_t number)
+static void refusal(struct json *json, const struct kind *kind, uint32_t number)
 {
     json_key(json, "refusal");
     json_number(json, number);
     json_key(json, "words");
-    json_words(json, zikhrodan_words(number));
+    json_words(json, kind->words(number));
 }
 
 static void our_identity(struct json *json, const struct shown_identity *identity)
@@ -16,7 +16,7 @@ static void our_identity(struct json *json, const struct shown_identity *identit
 
     json_key(json, "identity");
     json_begin(json, '{');
-    refusal(json, identity->refusal);
+    refusal(json, &FOUR, identity->refusal);
     json_key(json, "page");
     heard ? json_words(json, identity->page == ZIKHRODAN_LIVE ? "live" : "factory") : json_null(json);
     json_key(json, "image");
@@ -29,28 +29,39 @@ static void our_identity(struct json *json, const struct shown_identity *identit
 }
 
 /* The names of flags, as the other forms have them. */
-static void names(struct json *json, const uint8_t flags[FLAG_BYTES])
+static void names(struct json *json, const uint8_t flags[MOST_FLAG_BYTES])
 {
     char name[NAME_ROOM];
 
     json_begin(json, '[');
     for (unsigned i = 0; i < 8 * FLAG_BYTES; i++)
         if (bit_of(flags, FLAGS_AT + i / 8, 7 - i % 8))
-            json_words(json, flag_name(FLAGS_AT + i / 8, 7 - i % 8, name, sizeof name));
+            json_words(json, flag_name(flag_at(FLAGS_AT + i / 8, 7 - i % 8), name, sizeof name));
     json_end(json);
 }
 
-static void our_answers(struct json *json, const struct shown_port *port)
+void json_port(struct json *json, const struct shown *shown, const struct shown_port *port)
 {
     const struct port_view *view = &port->view;
     bool heard = answered(port);
 
+    json_key(json, "channels");
+    json_number(json, shown->state.kind->channels);
+    json_key(json, "port");
+    json_words(json, port_name(port->number));
+    refusal(json, shown->state.kind, view->refusal);
     json_key(json, "count");
     heard ? json_number(json, view->count) : json_null(json);
     json_key(json, "interrupt");
     heard ? json_bool(json, view->count != 0) : json_null(json);
+}
+
+static void our_answers(struct json *json, const struct shown_port *port)
+{
+    bool heard = answered(port);
+
     json_key(json, "selected_page");
-    heard ? json_number(json, view->page) : json_null(json);
+    heard ? json_number(json, port->view.page) : json_null(json);
     json_key(json, "masked");
     heard ? names(json, port->masked) : json_null(json);
 }
@@ -59,9 +70,7 @@ void json_ours(struct json *json, const struct shown *shown, const struct shown_
 {
     json_key(json, "zikhrodan");
     json_begin(json, '{');
-    json_key(json, "port");
-    json_words(json, port_name(port->number));
-    refusal(json, port->view.refusal);
+    json_port(json, shown, port);
     our_answers(json, port);
     json_key(json, "outside");
     names(json, shown->outside);

@@ -40,7 +40,7 @@ static void identity_part(const struct shown_identity *identity)
     heading("identity");
     if (identity->refusal != ZIKHRODAN_ACCEPTED) {
         fputs(": ", stdout);
-        say_refusal(identity->refusal);
+        say_refusal(&FOUR, identity->refusal);
     } else if (identity->page == ZIKHRODAN_LIVE) {
         puts(", from the live page 00h");
     } else {
@@ -121,11 +121,11 @@ static void monitors_part(const struct shown *shown)
         puts("  * the value is outside this limit");
 }
 
-void show_text(const struct shown *shown)
+void show_text(const struct shown *shown, enum which_flags which)
 {
     identity_part(&shown->identity);
     putchar('\n');
     monitors_part(shown);
     putchar('\n');
-    show_flags(shown, false);
+    show_flags(shown, which);
 }

@@ -46,27 +46,40 @@ static int lock_folder(const char *path, const char *name)
     }
 }
 
-static int state_load(struct state *state, enum if_missing missing)
+static int state_load(struct state *state, const char *path, const struct kind *kind)
+{
+    int status = load(path, state->name, state->bytes, sizeof state->bytes, &state->len);
+
+    state->kind = kind ? kind : kind_of(state->len);
+    if (status != 0 || state->kind)
+        return status;
+    fail("%s: refused %d, the state is neither %zu bytes nor, of an eight-channel module, %zu", state->name, ZIKHRODAN_STATE_SIZE,
+         FOUR.state_len, EIGHT.state_len);
+    return REFUSED;
+}
+
+static int load_or_begin(struct state *state, const struct kind *kind, enum if_missing missing)
 {
     struct stat is;
     int status = regular(state->path, state->name, "a state");
 
     if (status == 0 && missing == IS_ZEROS && stat(state->path, &is) != 0 && errno == ENOENT) {
         memset(state->bytes, 0, sizeof state->bytes);
-        state->len = ZIKHRODAN_STATE_LEN;
+        state->kind = kind;
+        state->len = kind->state_len;
         return 0;
     }
-    return status ? status : load(state->path, state->name, state->bytes, sizeof state->bytes, &state->len);
+    return status ? status : state_load(state, state->path, kind);
 }
 
-int state_open(struct state *state, const char *name, enum if_missing missing)
+int state_open(struct state *state, const char *name, const struct kind *kind, enum if_missing missing)
 {
     state->name = name;
     state->path = resolved(name, missing == IS_ZEROS);
     if (!state->path)
         return fail_errno(name);
     state->folder = lock_folder(state->path, name);
-    int status = state->folder < 0 ? fail_errno(name) : state_load(state, missing);
+    int status = state->folder < 0 ? fail_errno(name) : load_or_begin(state, kind, missing);
     if (status != 0)
         state_close(state);
     return status;
@@ -84,11 +97,12 @@ void state_close(struct state *state)
         close(state->folder);
 }
 
-int state_peek(struct state *state, const char *name)
+int state_peek(struct state *state, const char *name, const struct kind *kind)
 {
     int status = regular(name, name, "a state");
 
-    return status ? status : load(name, name, state->bytes, sizeof state->bytes, &state->len);
+    state->name = name;
+    return status ? status : state_load(state, name, kind);
 }
 
 int image_load(const char *name, uint8_t image[IMAGE_ROOM], size_t *len)

@@ -7,38 +7,71 @@
 #include <inttypes.h>
 #include <limits.h>
 #include <stdio.h>
+#include <string.h>
+
+/* What has come with a row for a port, and what is said of it. */
+struct told {
+    const char *words;
+    enum colour colour;
+    uint8_t flags[MOST_FLAG_BYTES];
+};
 
 /* The names of flags, with commas between them. */
-static void print_flags(const uint8_t flags[FLAG_BYTES])
+static void print_flags(const struct kind *kind, const uint8_t flags[MOST_FLAG_BYTES])
 {
     char name[NAME_ROOM];
     const char *between = "";
 
-    for (unsigned i = 0; i < 8 * FLAG_BYTES; i++)
+    for (unsigned i = 0; i < 8 * kind->flag_bytes; i++)
         if (bit_of(flags, FLAGS_AT + i / 8, 7 - i % 8)) {
-            printf("%s%s", between, flag_name(FLAGS_AT + i / 8, 7 - i % 8, name, sizeof name));
+            printf("%s%s", between, flag_name(kind->flag_at(FLAGS_AT + i / 8, 7 - i % 8), name, sizeof name));
             between = ", ";
         }
 }
 
-/* A line for a port where flags have risen, or where its interrupt has come. */
+/* A line, where there is a flag to tell. */
+static void tell_flags(const struct feed *feed, uint64_t port, const struct told *told)
+{
+    static const uint8_t none[MOST_FLAG_BYTES];
+
+    if (memcmp(told->flags, none, sizeof none) == 0)
+        return;
+    wipe();
+    printf("%s row %" PRIu64 ", %s: %s%s%s", feed->rows.name, feed->rows.row, port_name(port), paint(told->colour), told->words,
+           paint(PLAIN));
+    print_flags(feed->kind, told->flags);
+    putchar('\n');
+}
+
+/* A line, where a port's interrupt stood after the row before this one, and another command has read meanwhile. */
+static void tell_gone(const struct feed *feed, uint64_t port, const struct port_view *old, const struct port_view *new)
+{
+    static bool stood[PORTS];
+    bool *own = &stood[port - ZIKHRODAN_OPERATOR];
+
+    if (*own && old->count == 0) {
+        wipe();
+        printf("%s before row %" PRIu64 ", %s: the interrupt is gone\n", feed->rows.name, feed->rows.row, port_name(port));
+    }
+    *own = new->count > 0;
+}
+
+/* A line for a port where bits have come that its count is of, and one where flags have risen without: an eight-channel module's,
+ * of a condition that had its onset before. */
 static void tell_port(const struct feed *feed, const struct state *before, uint64_t port)
 {
     struct port_view old = ask_port(before, port), new = ask_port(&feed->state, port);
-    uint8_t risen[FLAG_BYTES];
-    bool any = false, comes = old.count == 0 && new.count > 0;
+    bool comes = old.count == 0 && new.count > 0;
+    struct told onset = {comes ? "INTERRUPT, " : new.count > old.count ? "" : "masked, ", comes ? BAD : PLAIN, {0}};
+    struct told again = {"lasts, ", PLAIN, {0}};
 
-    for (unsigned i = 0; i < FLAG_BYTES; i++) {
-        risen[i] = new.flags[i] & (uint8_t)~old.flags[i];
-        any = any || risen[i];
+    for (unsigned i = 0; i < feed->kind->flag_bytes; i++) {
+        onset.flags[i] = new.pending[i] & (uint8_t)~old.pending[i];
+        again.flags[i] = new.flags[i] & (uint8_t)~old.flags[i] & (uint8_t)~onset.flags[i];
     }
-    if (!any)
-        return;
-    wipe();
-    printf("%s row %" PRIu64 ", %s: %s%s%s", feed->rows.name, feed->rows.row, port_name(port), paint(comes ? BAD : PLAIN),
-           comes ? "INTERRUPT, " : new.count > old.count ? "" : "masked, ", paint(PLAIN));
-    print_flags(risen);
-    putchar('\n');
+    tell_gone(feed, port, &old, &new);
+    tell_flags(feed, port, &onset);
+    tell_flags(feed, port, &again);
 }
 
 static int tell(const struct feed *feed, const struct state *before)
@@ -67,7 +100,11 @@ const struct command WATCH = {
             "for it that were not raised, with the row's number: what an alert would have\n"
             "said. INTERRUPT stands where the port's interrupt comes with it, 'masked' where\n"
             "the port's masks hold all of them back. A flag that is raised and not yet read\n"
-            "rises no second time.",
+            "rises no second time. Where somebody has read meanwhile, and a port's interrupt\n"
+            "no longer stands, a line before the next row says that it is gone.\n\n"
+            "Of an eight-channel module it tells what becomes pending, which is at the onset\n"
+            "of a condition. 'lasts' stands where a flag that was read rises again, since\n"
+            "its condition still stands: that is no onset, and no interrupt comes of it.",
     .examples = "    $ zikhrodan watch trial/module.state trial/day.rows\n"
                 "    trial/day.rows row 828, operator: INTERRUPT, "
                 "Rx3 loss of signal, Rx power 3 low alarm, Rx power 3 low warning\n"
@@ -75,6 +112,26 @@ const struct command WATCH = {
                 "Rx3 loss of signal, Rx power 3 low alarm, Rx power 3 low warning\n"
                 "    1440 rows taken\n"
                 "    operator: 3 flags let through, interrupt\n"
-                "    recorder: 3 flags let through, interrupt\n",
+                "    recorder: 3 flags let through, interrupt\n"
+                "    $ zikhrodan demo --eight --keep trial | tail -n 2\n"
+                "    Kept in trial: eight.rows, the day's rows, and eight.state, an eight-channel\n"
+                "    module that is reset and has been fed nothing yet.\n"
+                "    $ head -c 7840 trial/eight.rows | zikhrodan watch trial/eight.state -\n"
+                "    standard input row 553, operator: INTERRUPT, "
+                "Rx5 LOS, Rx5 CDR LOL, Rx5 Power Low Warning, Rx5 Power Low Alarm\n"
+                "    standard input row 553, recorder: INTERRUPT, "
+                "Rx5 LOS, Rx5 CDR LOL, Rx5 Power Low Warning, Rx5 Power Low Alarm\n"
+                "    560 rows taken\n"
+                "    operator (eight channels): 4 pending flags let through, interrupt\n"
+                "    recorder (eight channels): 4 pending flags let through, interrupt\n"
+                "    $ zikhrodan read trial/eight.state operator 3 14\n"
+                "        3 003  10 00 10 00 00 00 00 10 10 00 00 00 00 00        |..............|\n"
+                "    operator (eight channels): 0 pending flags let through, no interrupt\n"
+                "    $ tail -c +7841 trial/eight.rows | head -c 140 | zikhrodan watch trial/eight.state -\n"
+                "    standard input row 1, operator: lasts, "
+                "Rx5 LOS, Rx5 CDR LOL, Rx5 Power Low Warning, Rx5 Power Low Alarm\n"
+                "    10 rows taken\n"
+                "    operator (eight channels): 0 pending flags let through, no interrupt\n"
+                "    recorder (eight channels): 4 pending flags let through, interrupt\n",
     .run = watch,
 };

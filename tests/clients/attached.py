@@ -9,15 +9,18 @@ import sys
 import tempfile
 from pathlib import Path
 
-from bench import Module
+from bench import EIGHT_LEN, Module
 from feed import sample
 
-USAGE = "usage: tests/clients/try [-s SAMPLE | -f STATE] COMMAND .., with a SAMPLE of 31 bytes in hex, a STATE of 688 bytes"
+USAGE = ("usage: tests/clients/try [-s SAMPLE | -f STATE] COMMAND .., with a SAMPLE of 31 bytes in hex, a STATE of 688 bytes; "
+         "of an eight-channel module 14 and 98")
+SAMPLES = {31: 688, 14: EIGHT_LEN}  # a sample's length, and that of the state of the module that takes it
 
 
 @contextlib.contextmanager
 def fed(module, given):
-    """The factory image, and a sample."""
+    """The factory image, or an eight-channel module without one, and a sample."""
+    module.lend(bytes(SAMPLES[len(given)]))
     module.reset()
     module.sample(given)
     yield
@@ -61,7 +64,7 @@ def parsed(words):
         words = words[2:]
     elif words[:1] == ["-f"] and len(words) > 1:
         begins, given, words = lent, Path(words[1]), words[2:]
-    if not words or words[0].startswith("-") or (begins == fed and len(given) != 31):
+    if not words or words[0].startswith("-") or (begins == fed and len(given) not in SAMPLES):
         return None
     return begins, given, words
 
@@ -72,8 +75,8 @@ def main(words):
         print(USAGE, file=sys.stderr)
         return 2
     begins, given, words = asked
-    if begins == lent and not (given.is_file() and os.access(given, os.R_OK) and given.stat().st_size == 688):
-        print(f"try: {given} is no file of 688 bytes that can be read", file=sys.stderr)
+    if begins == lent and not (given.is_file() and os.access(given, os.R_OK) and given.stat().st_size in SAMPLES.values()):
+        print(f"try: {given} is no file of 688 bytes, or of 98, that can be read", file=sys.stderr)
         return 2
     signal.signal(signal.SIGTERM, lambda *_: sys.exit(2))  # so that the module and its folder go
     with tempfile.TemporaryDirectory(prefix="clients") as folder:

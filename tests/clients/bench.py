@@ -8,6 +8,7 @@ import sys
 from pathlib import Path
 
 from paper import Paper
+from paper_eight import Eight
 
 ROOT = Path(__file__).resolve().parents[2]
 SHIM = ROOT / "build" / "clients-shim.so"
@@ -17,6 +18,7 @@ DEVICES = {1: "operator", 2: "recorder"}
 WAYS = ("netlink", "ioctl")
 RESET, SAMPLE, READ, WRITE, LOOK, LEND = range(1, 7)  # wire.h
 PATIENCE = 900  # seconds, for what has no end otherwise
+EIGHT_LEN = 98  # the bytes of an eight-channel module's state
 REQUEST, ANSWER = struct.Struct("<4I688s"), struct.Struct("<2I688s")
 
 
@@ -49,14 +51,14 @@ class Module:
         return packed, run[:length]
 
     def reset(self, image=IMAGE):
-        """Resets both; gives both refusals."""
+        """Resets both; gives both refusals. An eight-channel module takes no image, and looks at none."""
         return self.ask(RESET, data=image)[0] & 0xFF, self.paper.reset(image)
 
     def sample(self, sample):
         return self.ask(SAMPLE, data=sample)[0] & 0xFF, self.paper.sample(sample)
 
     def look(self):
-        """The 688 bytes."""
+        """The bytes of the state."""
         return self.ask(LOOK)[1]
 
     def refusal(self):
@@ -64,11 +66,14 @@ class Module:
         return self.ask(LOOK)[0] & 0xFF
 
     def lend(self, state):
+        """A state in place of the module's; its length says which kind it is from now on."""
         self.ask(LEND, data=bytes(state))
+        if len(state) != len(self.paper.state):
+            self.paper = Eight() if len(state) == EIGHT_LEN else Paper()
         self.paper.state[:] = state
 
     def agrees(self):
-        """The 688 bytes are those on paper."""
+        """The bytes of the state are those on paper."""
         return self.look() == bytes(self.paper.state)
 
     def setting(self, way="netlink", path=None, shim=SHIM, **more):

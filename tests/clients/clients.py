@@ -12,6 +12,7 @@ import absences
 import departures
 import history
 import with_dumps
+import with_eight
 import with_ethtool
 import with_i2c
 import with_registers
@@ -25,7 +26,7 @@ def main():
     with tempfile.TemporaryDirectory(prefix="clients") as folder:
         module = Module(Path(folder) / "module")
         try:
-            for part in (with_ethtool, with_dumps, with_i2c, with_registers, history, departures, absences):
+            for part in (with_ethtool, with_dumps, with_i2c, with_registers, history, departures, absences, with_eight):
                 checks.all_of(part, module)
         finally:
             module.end()

@@ -1,5 +1,5 @@
-/* module.c: the module's process. It holds the 688 bytes, listens on a unix socket, and makes the calls that arrive; what they do
- * the library decides. The messages are wire.h's.
+/* module.c: the module's process. It holds the 688 bytes, or an eight-channel module's 98, listens on a unix socket, and makes
+ * the calls that arrive; what they do the library decides. The messages are wire.h's.
  *
  *   clients-module SOCKET
  *
@@ -15,38 +15,48 @@
 #include "wire.h"
 
 static uint8_t state[ZIKHRODAN_STATE_LEN];
+static size_t length = ZIKHRODAN_STATE_LEN; /* of the state, which says which kind of module it is */
 static uint32_t last; /* the answer of the last call */
+
+/* Resets the module; an eight-channel one has no image. */
+static uint32_t reset(const uint8_t *image, size_t count)
+{
+    return length == ZIKHRODAN_DD_STATE_LEN ? zikhrodan_dd_reset(state, length) : zikhrodan_reset(state, length, image, count);
+}
 
 /* Makes the call that is asked for; 0 if there is no such call. */
 static int perform(const struct request *request, struct answer *answer)
 {
     const uint8_t *bytes = request->bytes;
+    int eight = length == ZIKHRODAN_DD_STATE_LEN;
     if (request->kind != WIRE_READ && request->count > sizeof request->bytes)
         return 0;
     switch (request->kind) {
     case WIRE_RESET:
-        last = zikhrodan_reset(state, sizeof state, bytes, request->count);
+        last = reset(bytes, request->count);
         break;
     case WIRE_SAMPLE:
-        last = zikhrodan_sample(state, sizeof state, bytes, request->count);
+        last = (eight ? zikhrodan_dd_sample : zikhrodan_sample)(state, length, bytes, request->count);
         break;
     case WIRE_READ:
-        last = zikhrodan_read(state, sizeof state, request->port, request->address, request->count, answer->bytes,
-                              sizeof answer->bytes);
+        last = (eight ? zikhrodan_dd_read : zikhrodan_read)(state, length, request->port, request->address, request->count,
+                                                            answer->bytes, sizeof answer->bytes);
         if (zikhrodan_refusal_of(last) == ZIKHRODAN_ACCEPTED)
             answer->count = request->count;
         break;
     case WIRE_WRITE:
-        last = zikhrodan_write(state, sizeof state, request->port, request->address, bytes, request->count);
+        last = (eight ? zikhrodan_dd_write : zikhrodan_write)(state, length, request->port, request->address, bytes,
+                                                              request->count);
         break;
     case WIRE_LOOK:
-        memcpy(answer->bytes, state, sizeof state);
-        answer->count = sizeof state;
+        memcpy(answer->bytes, state, length);
+        answer->count = (uint32_t)length;
         break;
     case WIRE_LEND:
-        if (request->count != sizeof state)
+        if (request->count != ZIKHRODAN_STATE_LEN && request->count != ZIKHRODAN_DD_STATE_LEN)
             return 0;
-        memcpy(state, bytes, sizeof state);
+        length = request->count;
+        memcpy(state, bytes, length);
         break;
     default:
         return 0;

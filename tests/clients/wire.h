@@ -11,12 +11,12 @@
 #include <zikhrodan.h>
 
 enum {
-    WIRE_RESET = 1,  /* bytes: the factory image */
+    WIRE_RESET = 1,  /* bytes: the factory image; none for an eight-channel module */
     WIRE_SAMPLE = 2, /* bytes: the sample */
     WIRE_READ = 3,   /* port, address, count */
     WIRE_WRITE = 4,  /* port, address, bytes */
     WIRE_LOOK = 5,   /* for tests: the state as it stands, through no call */
-    WIRE_LEND = 6    /* for tests: a state in place of the module's, through no call */
+    WIRE_LEND = 6    /* for tests: a state in place of the module's, through no call; its length says which kind it is */
 };
 
 /* How many seconds either side waits for the other: the environment's ZIKHRODAN_PATIENCE, from 1 to an hour; else this. */
@@ -40,7 +40,7 @@ struct request {
 
 struct answer {
     uint32_t packed; /* the library's answer; to a look or a lend, that of the last call */
-    uint32_t count;  /* of the bytes that are here: those of an accepted read, or a look's 688 */
+    uint32_t count;  /* of the bytes that are here: those of an accepted read, or of the state that is looked at */
     uint8_t bytes[ZIKHRODAN_STATE_LEN];
 };
 

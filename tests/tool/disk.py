@@ -4,7 +4,7 @@ import resource
 import shutil
 
 from bench import IMAGE
-from station import CHANGES, LOOKS, NOBODY, PROGRAM, Kept, zikhrodan
+from station import CHANGES, KINDS, LOOKS, NOBODY, PROGRAM, Kept, zikhrodan
 
 SIZES = (0, 1, 31, 640, 687)
 
@@ -13,25 +13,27 @@ def limited(size):
     return {"preexec_fn": lambda: resource.setrlimit(resource.RLIMIT_FSIZE, (size, size))}
 
 
-def full(folder, checks):
-    for words, on_paper in CHANGES.items():
-        with checks.group(f"{words[0]}{' --raw' * ('--raw' in words)}: no file can have more than 0 to 687 bytes: one line, "
-                          "status 2, nothing is changed or left or said to be done") as group:
-            for size in SIZES:
-                kept = Kept(folder)
+def full(kind, folder, checks):
+    whole = len(kind.new_paper().state)
+    for words, on_paper in kind.changes.items():
+        with checks.group(f"{kind.called}{words[0]}{' --raw' * ('--raw' in words)}: no file can have more than 0 to {whole - 1} "
+                          "bytes: one line, status 2, nothing is changed or left or said to be done") as group:
+            for size in [size for size in SIZES if size < whole] + [whole - 1]:
+                kept = kind(folder)
                 status, said, complaint = kept.run(*words, **limited(size))
                 group.same(f"{size} bytes", (2, "zikhrodan: module.state: File too large\n"), (status, complaint))
                 group.same(f"{size}: what is said", False, any(word in said for word in ("1 row", "2 rows", "is reset")) or
                            (words[0] == "write" and "let through" in said))
-                group.same(f"{size}: the 688 bytes", True, kept.agrees())
+                group.same(f"{size}: the state", True, kept.agrees())
                 group.same(f"{size}: other files", [], kept.others())
-            kept = Kept(folder)
+            kept = kind(folder)
             on_paper(kept.paper)
-            group.same("688", (0, ""), kept.run(*words, **limited(688))[::2])
-            group.same("688: the 688 bytes", True, kept.agrees())
-    with checks.group("reset of a state that is not there, on a full disk: none is made") as group:
-        for size in SIZES:
-            seen = zikhrodan(folder, "reset", "new.state", **limited(size))
+            group.same(f"{whole}", (0, ""), kept.run(*words, **limited(whole))[::2])
+            group.same(f"{whole}: the state", True, kept.agrees())
+    with checks.group(f"{kind.called}reset of a state that is not there, on a full disk: none is made") as group:
+        reset = next(words for words in kind.changes if words[0] == "reset")
+        for size in [size for size in SIZES if size < whole]:
+            seen = zikhrodan(folder, *reset, "new.state", **limited(size))
             group.same(f"{size} bytes", (2, "", "zikhrodan: new.state: File too large\n"), seen)
             group.same(f"{size}: files", False, any(name.startswith("new") for name in os.listdir(folder)))
 
@@ -50,6 +52,19 @@ def full_for_demo(folder, checks):
                 group.same(f"{size}: {file}", (folder / "whole" / file).read_bytes(), (folder / name / file).read_bytes())
         group.same("the image", IMAGE, (folder / "whole" / "factory.image").read_bytes())
         group.same("55296 bytes", (0, ""), zikhrodan(folder, "demo", "--keep", "enough", **limited(55296))[::2])
+
+
+def full_for_eight(folder, checks):
+    with checks.group("demo --eight --keep on a full disk: one line, status 2; each file is whole, or not there") as group:
+        group.same("without a limit", (0, ""), zikhrodan(folder, "demo", "--eight", "--keep", "eight")[::2])
+        for size in (0, 97, 20159):
+            status, _, complaint = zikhrodan(folder, "demo", "--eight", "--keep", f"eight{size}", **limited(size))
+            group.same(size, (2, f"zikhrodan: eight{size}/eight.rows: File too large\n"), (status, complaint))
+            group.same(f"{size}: files", [], os.listdir(folder / f"eight{size}"))
+        group.same("20160", (0, ""), zikhrodan(folder, "demo", "--eight", "--keep", "enough8", **limited(20160))[::2])
+        for name, size in (("eight.rows", 20160), ("eight.state", 98)):
+            group.same(name, size, len((folder / "eight" / name).read_bytes()))
+            group.same(f"{name} again", (folder / "eight" / name).read_bytes(), (folder / "enough8" / name).read_bytes())
 
 
 def copied(folder):
@@ -110,6 +125,8 @@ def unread(group, place, user):
 
 
 def run(folder, checks):
-    full(folder / "full", checks)
+    for kind in KINDS:
+        full(kind, folder / f"full-{kind.__name__}", checks)
     full_for_demo(folder, checks)
+    full_for_eight(folder, checks)
     rights(folder, checks)

@@ -8,7 +8,7 @@ import subprocess
 import ended
 from feed import sample
 from paper import Paper
-from station import CALM, CHANGES, PATIENCE, Kept, settled, start, waits
+from station import CALM, CHANGES, KINDS, PATIENCE, Kept, settled, start, waits
 from transcript import ROOT
 
 STREAMS, ROWS = 40, 60  # commands that are fed row after row, and the most rows
@@ -24,8 +24,8 @@ def end(process, how=signal.SIGKILL):
     return process.communicate(timeout=PATIENCE)[0]
 
 
-def after(state, on_paper):
-    paper = Paper()
+def after(state, on_paper, new_paper=Paper):
+    paper = new_paper()
     paper.state[:] = state
     on_paper(paper)
     return bytes(paper.state)
@@ -34,8 +34,8 @@ def after(state, on_paper):
 def commands(kept, program, group, how):
     """Each command, ended before each of its calls; gives how many were ended before and how many after their change."""
     old, before, changed = bytes(kept.paper.state), 0, 0
-    for words, on_paper in CHANGES.items():
-        new, seen, status = after(old, on_paper), [], None
+    for words, on_paper in kept.changes.items():
+        new, seen, status = after(old, on_paper, kept.new_paper), [], None
         for status, _, _ in ended.each_moment(kept.folder, program, how, words[0], kept.path.name, *words[1:], begin=kept.put):
             seen.append(kept.path.read_bytes())
         at = seen.index(new) if new in seen else len(seen)
@@ -87,15 +87,23 @@ def by_the_wrapper(kept, group):
         group.same(f"{how.name}: its status", -how, process.returncode)
 
 
-def run(folder, checks):
-    kept, program, chance = Kept(folder / "kills"), ended.build(folder / "tool"), random.Random(688)
-    kept.paper.sample(CALM)  # so that each command changes something
-    with checks.group("commands ended by SIGTERM, SIGINT, SIGHUP before each call: the same, and nothing is left") as group:
+def each_call(kept, program, checks):
+    """Every command of a kind of module, ended at each of its moments; gives how many before and how many after their change."""
+    kept.paper.sample(kept.calm)  # so that each command changes something
+    with checks.group(f"{kept.called}commands ended by SIGTERM, SIGINT, SIGHUP at each call: the same, nothing is left") as group:
         for how in ASKED:
             commands(kept, program, group, how)
         group.same("other files", [], kept.others())
-    with checks.group("commands killed before each call: the state is that of before, or that of after") as group:
-        before, changed = commands(kept, program, group, signal.SIGKILL)
+    with checks.group(f"{kept.called}commands killed before each call: the state is that of before, or that of after") as group:
+        return commands(kept, program, group, signal.SIGKILL)
+
+
+def run(folder, checks):
+    program, chance = ended.build(folder / "tool"), random.Random(688)
+    for kind in KINDS[1:]:
+        each_call(kind(folder / kind.__name__), program, checks)
+    kept = Kept(folder / "kills")
+    before, changed = each_call(kept, program, checks)
     with checks.group(f"{STREAMS} commands killed while rows come in: the state is that after one of the rows") as group:
         stopped = streams(kept, chance, group)
         group.same("they are killed after different rows", True, len(stopped) > 5)

@@ -5,7 +5,7 @@ import stat
 from bench import IMAGE
 from disk import copied
 from paper import Paper
-from station import CHANGES, NOBODY, Kept, zikhrodan
+from station import CHANGES, KINDS, NOBODY, Kept, zikhrodan
 
 
 def rights_of(path):
@@ -32,17 +32,17 @@ def linked(folder, checks):
         group.same("files beside the state", [], kept.others())
 
 
-def kept_rights(folder, checks):
-    kept = Kept(folder / "rights")
-    with checks.group("a state's rights stay, whatever the umask is") as group:
+def kept_rights(kind, folder, checks):
+    kept = kind(folder / f"rights-{kind.__name__}")
+    with checks.group(f"{kind.called}a state's rights stay, whatever the umask is") as group:
         for mode in (0o600, 0o640, 0o664, 0o444):
-            for words in CHANGES:
+            for words in kind.changes:
                 kept.path.chmod(mode)
                 group.same(f"{words}", (0, ""), kept.run(*words, umask=0o077)[::2])
                 group.same(f"{words} of a state with {mode:o}", f"{mode:o}", f"{rights_of(kept.path):o}")
-    with checks.group("a state's owner stays, where root changes another's") as group:
+    with checks.group(f"{kind.called}a state's owner stays, where root changes another's") as group:
         owner = (NOBODY, NOBODY) if os.geteuid() == 0 else (os.geteuid(), os.getegid())
-        for words in CHANGES:
+        for words in kind.changes:
             os.chown(kept.path, *owner)
             group.same(f"{words}", (0, ""), kept.run(*words)[::2])
             group.same(f"{words}: its owner", owner, (kept.path.stat().st_uid, kept.path.stat().st_gid))
@@ -81,6 +81,7 @@ def new_rights(folder, checks):
 
 def run(folder, checks):
     linked(folder, checks)
-    kept_rights(folder, checks)
+    for kind in KINDS:
+        kept_rights(kind, folder, checks)
     shared(folder, checks)
     new_rights(folder, checks)

@@ -6,7 +6,7 @@ import os
 import subprocess
 
 from bench import IMAGE
-from station import CALM, CHANGES, LOOKS, LOSS, Kept, zikhrodan
+from station import CALM, CHANGES, KINDS, LOOKS, Kept, zikhrodan
 from transcript import ROOT, environment
 
 
@@ -39,45 +39,46 @@ def without_output(run, what):
 
 
 def changing(folder, checks):
-    for words, on_paper in CHANGES.items():
+    for kind, words, on_paper in ((kind, *change) for kind in KINDS for change in kind.changes.items()):
         reads = words[0] == "read"
-        with checks.group(f"{words[0]}{' --raw' * ('--raw' in words)}: standard output cannot be written: one line, status 2, "
-                          f"{'no flag is lost' if reads else 'the change is made'}") as group:
+        with checks.group(f"{kind.called}{words[0]}{' --raw' * ('--raw' in words)}: standard output cannot be written: one line, "
+                          f"status 2, {'no flag is lost' if reads else 'the change is made'}") as group:
             for what in WAYS:
-                kept = Kept(folder)
+                kept = kind(folder)
                 if not reads:
                     on_paper(kept.paper)
                 seen = without_output(lambda how=kept, words=words, **lost: how.run(*words, **lost), what)
                 group.same(what, (2, "", f"zikhrodan: standard output: {what}\n"), seen)
-                group.same(f"{what}: the 688 bytes", True, kept.agrees())
+                group.same(f"{what}: the state", True, kept.agrees())
                 group.same(f"{what}: other files", [], kept.others())
 
 
 def stopping(folder, checks):
     with checks.group("watch: it ends at what it cannot tell; that row is in the state, and the rows after it are not") as group:
-        for what in WAYS:
-            kept = Kept(folder)
+        for kind, what in ((kind, what) for kind in KINDS for what in WAYS):
+            kept = kind(folder)
             kept.paper.reset(IMAGE)
             kept.put()
-            kept.paper.sample(LOSS)
+            kept.paper.sample(kept.loss)
             seen = without_output(lambda how=kept, **lost: how.run("watch", "loss.rows", "calm.rows", **lost), what)
-            group.same(what, (2, "", f"zikhrodan: standard output: {what}\n"), seen)
-            group.same(f"{what}: the 688 bytes", True, kept.agrees())
+            group.same(f"{kind.called}{what}", (2, "", f"zikhrodan: standard output: {what}\n"), seen)
+            group.same(f"{kind.called}{what}: the state", True, kept.agrees())
 
 
 def telling(folder, checks):
     with checks.group("demo and --help: standard output cannot be written: one line, status 2") as group:
-        for words in (("demo",), ("--help",), ("sample", "--help")):
+        for words in (("demo",), ("demo", "--eight"), ("--help",), ("sample", "--help")):
             for what in WAYS:
                 seen = without_output(lambda words=words, **lost: zikhrodan(folder, *words, **lost), what)
                 group.same(f"{words}, {what}", (2, "", f"zikhrodan: standard output: {what}\n"), seen)
-    with checks.group("show: standard output cannot be written: one line, status 2, nothing is changed") as group:
-        kept = Kept(folder)
-        for words in LOOKS:
-            for what in WAYS:
-                seen = without_output(lambda how=kept, words=words, **lost: how.run("show", *words, **lost), what)
-                group.same(f"{words}, {what}", (2, "", f"zikhrodan: standard output: {what}\n"), seen)
-        group.same("the 688 bytes, and other files", (True, []), (kept.agrees(), kept.others()))
+    for kind in KINDS:
+        with checks.group(f"{kind.called}show: standard output cannot be written: one line, status 2, no change") as group:
+            kept = kind(folder)
+            for words in LOOKS:
+                for what in WAYS:
+                    seen = without_output(lambda how=kept, words=words, **lost: how.run("show", *words, **lost), what)
+                    group.same(f"{words}, {what}", (2, "", f"zikhrodan: standard output: {what}\n"), seen)
+            group.same("the state, and other files", (True, []), (kept.agrees(), kept.others()))
     with checks.group("demo --keep: standard output cannot be written: one line, status 2, the four files are whole") as group:
         whole = zikhrodan(folder, "demo", "--keep", "whole")
         group.same("kept", 0, whole[0])

@@ -3,7 +3,7 @@ import select
 import subprocess
 
 from feed import sample
-from station import CALM, LOSS, PATIENCE, Kept, is_taken, start, waits
+from station import CALM, EIGHT_LOSS, LOSS, PATIENCE, Kept, KeptEight, is_taken, start, waits
 
 ROWS = [sample(status=(1 << number, 0, 0), at0=0x1E00 + number) for number in range(6)]
 
@@ -108,9 +108,68 @@ def told_at_once(folder, checks):
         group.same("at the end", 0, feeding.end()[0])
 
 
+def comes_and_goes(folder, checks):
+    with checks.group("eight channels, watch: the interrupt comes at an onset, is gone after a read; what lasts is told") as group:
+        kept = KeptEight(folder / "goes")
+        kept.paper.reset()
+        kept.put()
+        feeding = Feeding(kept, "watch")
+
+        def row(given, *told):
+            feeding.give(given)
+            kept.paper.sample(given)
+            group.same("what is told", list(told), [feeding.line() for _ in told])
+            group.same("the row is in the state", True, waits(kept.agrees))
+
+        loss, none = bytes([0x10] + [0] * 13), bytes(14)
+        row(loss, *(f"standard input row 1, {port}: INTERRUPT, Rx5 LOS\n" for port in ("operator", "recorder")))
+        group.same("a read", 0, kept.run("read", "operator", 3, 14)[0])
+        kept.paper.read(1, 3, 14)
+        row(loss, "standard input before row 2, operator: the interrupt is gone\n",
+            "standard input row 2, operator: lasts, Rx5 LOS\n")
+        row(loss)
+        row(none)
+        group.same("a read", 0, kept.run("read", "recorder", 3, 14)[0])
+        kept.paper.read(2, 3, 14)
+        row(loss, "standard input row 5, operator: INTERRUPT, Rx5 LOS\n",
+            "standard input before row 5, recorder: the interrupt is gone\n",
+            "standard input row 5, recorder: INTERRUPT, Rx5 LOS\n")
+        told = "5 rows taken\n" + "".join(f"{port} (eight channels): 1 pending flag let through, interrupt\n"
+                                          for port in ("operator", "recorder"))
+        group.same("at the end", (0, told, ""), feeding.end())
+
+
+def eight_halves(folder, checks):
+    with checks.group("eight channels: a row in two halves is one row, and what is cut off at the end is refused") as group:
+        kept = KeptEight(folder / "eight-halves")
+        feeding = Feeding(kept, "sample")
+        feeding.give(EIGHT_LOSS[:5])
+        group.same("the half is taken", True, is_taken(feeding.process))
+        feeding.give(EIGHT_LOSS[5:] + bytes(14) + EIGHT_LOSS[:13])
+        kept.paper.sample(EIGHT_LOSS)
+        kept.paper.sample(bytes(14))
+        feeding.ends(group, 1, "2 rows taken", "zikhrodan: standard input: row 3: refused 8, the sample isn't 14 bytes\n")
+
+
+def gone(folder, checks):
+    with checks.group("watch tells before the next row that a port's interrupt is gone, where another command has read") as group:
+        kept = Kept(folder / "gone")
+        feeding = Feeding(kept, "watch")
+        feeding.give(CALM)
+        kept.paper.sample(CALM)
+        group.same("the row is in the state", True, waits(kept.agrees))
+        group.same("a read", 0, kept.run("read", "recorder", 3, 12)[0])
+        feeding.give(CALM)
+        group.same("what is told", "standard input before row 2, recorder: the interrupt is gone\n", feeding.line())
+        group.same("at the end", 0, feeding.end()[0])
+
+
 def run(folder, checks):
     saved_each_time(folder, checks)
     halves(folder, checks)
     file_first(folder, checks)
     cut_off(folder, checks)
     told_at_once(folder, checks)
+    gone(folder, checks)
+    comes_and_goes(folder, checks)
+    eight_halves(folder, checks)

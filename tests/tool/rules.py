@@ -7,8 +7,8 @@ import re
 
 from transcript import ROOT
 
-# Addresses that a rule of document 01 is about, and where they lie in the state; numbers of document 02's log. Where a flag lies,
-# and where a sample's numbers are stored, is what show needs.
+# Addresses that a rule of document 01 is about, and where they lie in the state; numbers of document 02's log and eight-channel
+# module, whose places the header names. Where a flag lies, and where a sample's numbers are stored, is what show needs.
 RULES = {
     "the masks": {*range(100, 105), *range(242, 248), *range(626, 632), *range(652, 663), *range(676, 687)},
     "the thresholds": {144, 176, 184, 192, 512, 528, 560, 568, 576},
@@ -17,6 +17,7 @@ RULES = {
     "the shared list": {86, 87, 88, 93, 98, *range(234, 242)},
     "what reads 0": set(range(119, 127)),
     "where a log's block has its summary and its sum, and the last number": {*range(501, 511), 4294967295},
+    "an eight-channel module's masks, and which bits of 9 and 108 are flags and masks": {*range(105, 118), 0xCF, 0xCE},
 }
 # Code that has such a number for another reason: its file, its text, the reason.
 EXEMPT = (
@@ -72,7 +73,7 @@ def trials(checks):
     """What the check is to see, in an edit on trial, and what it is not to."""
     with checks.group("an edit that brings a rule in is seen; a comment, a text or another number is not") as group:
         for code in ("if (address == 100)", "x = 0x64u;", "state[0xC3] & 0x40", "{220, 1}", "i < 0173", "1 + 247UL", "block[510]",
-                     "number == 0xFFFFFFFFu"):
+                     "number == 0xFFFFFFFFu", "flags & 0xCF", "address >= 115"):
             group.same(code, 1, len(numbers(bare(code))))
         for code in ("/* 100 */ x = 1;", 'puts("byte 100");', "x = 1000;", "// 220\n", "y = x100;", "c = 'd';", "1.100"):
             group.same(code, [], numbers(bare(code)))

@@ -11,6 +11,7 @@ from pathlib import Path
 from bench import IMAGE
 from feed import sample
 from paper import Paper
+from paper_eight import Eight
 from transcript import PATIENCE, ROOT, environment
 
 EMULATED = bool(subprocess.run(["bash", "-c", '. tools/machine.sh; printf %s "$EMULATED"'], cwd=ROOT, capture_output=True,
@@ -71,19 +72,23 @@ def is_taken(process):
 
 LOSS = sample(status=(0x12, 0x34, 0x56), at2=250)  # eleven flags for each port
 CALM = sample()
+EIGHT_LOSS = bytes([0x12, 0, 0x10, 0, 0, 0x80, 0x0B, 0, 0x10, 0, 0, 0, 0, 0x80])  # nine
+EIGHT_CALM = bytes(14)
 
 
 class Kept:
     """A state in a file, and beside it the same module on paper. It is fed, so that there are flags to lose."""
 
+    called, new_paper, loss, calm = "", Paper, LOSS, CALM
+
     def __init__(self, folder, name="module.state"):
-        self.folder, self.path, self.paper = folder, folder / name, Paper()
+        self.folder, self.path, self.paper = folder, folder / name, self.new_paper()
         folder.mkdir(exist_ok=True)
-        (folder / "loss.rows").write_bytes(LOSS)
-        (folder / "calm.rows").write_bytes(CALM)
-        (folder / "both.rows").write_bytes(CALM + LOSS)
+        (folder / "loss.rows").write_bytes(self.loss)
+        (folder / "calm.rows").write_bytes(self.calm)
+        (folder / "both.rows").write_bytes(self.calm + self.loss)
         self.paper.reset(IMAGE)
-        self.paper.sample(LOSS)
+        self.paper.sample(self.loss)
         self.put()
 
     def put(self):
@@ -103,11 +108,17 @@ class Kept:
         return zikhrodan(self.folder, words[0], self.path.name, *words[1:], **how)
 
 
+class KeptEight(Kept):
+    """The same with an eight-channel module."""
+
+    called, new_paper, loss, calm = "eight channels, ", Eight, EIGHT_LOSS, EIGHT_CALM
+
+
 # The forms of the command that only looks: the words after the state.
-LOOKS = ((), ("--raised",), ("--json",), ("--hex",), ("--hex", "--port", "recorder"))
+LOOKS = ((), ("--raised",), ("--all",), ("--json",), ("--hex",), ("--hex", "--port", "recorder"))
 
 # The commands that change a state, and the same on paper.
-CHANGES = {
+CHANGES = Kept.changes = {
     ("reset",): lambda paper: paper.reset(IMAGE),
     ("sample", "both.rows"): lambda paper: (paper.sample(CALM), paper.sample(LOSS)),
     ("watch", "both.rows"): lambda paper: (paper.sample(CALM), paper.sample(LOSS)),
@@ -115,3 +126,12 @@ CHANGES = {
     ("read", "recorder", 9, 1, "--raw"): lambda paper: paper.read(2, 9, 1),
     ("write", "operator", 100, 255, 255): lambda paper: paper.write(1, 100, b"\xFF\xFF"),
 }
+KeptEight.changes = {
+    ("reset", "--eight"): lambda paper: paper.reset(),
+    ("sample", "both.rows"): lambda paper: (paper.sample(EIGHT_CALM), paper.sample(EIGHT_LOSS)),
+    ("watch", "both.rows"): lambda paper: (paper.sample(EIGHT_CALM), paper.sample(EIGHT_LOSS)),
+    ("read", "operator", 3, 14): lambda paper: paper.read(1, 3, 14),
+    ("read", "recorder", 9, 1, "--raw"): lambda paper: paper.read(2, 9, 1),
+    ("write", "operator", 107, 255, 255): lambda paper: paper.write(1, 107, b"\xFF\xFF"),
+}
+KINDS = (Kept, KeptEight)

@@ -4,7 +4,7 @@ The tool is watched from inside, by a library that is loaded before it: not wher
 """
 import subprocess
 
-from station import CHANGES, EMULATED, Kept
+from station import EMULATED, KINDS
 from transcript import ROOT, environment
 
 WATCHER = ROOT / "build" / "tool-synced.so"
@@ -27,22 +27,27 @@ def run(folder, checks):
         return
     subprocess.run(["cc", "-std=gnu11", "-Wall", "-Wextra", "-Werror", "-shared", "-fPIC", ROOT / "tests" / "tool" / "synced.c",
                     "-ldl", "-o", WATCHER], check=True)
-    kept = Kept(folder / "synced")
-    with checks.group("a new state is synced, renamed, and then its folder is synced") as group:
-        for words in CHANGES:
+    for kind in KINDS:
+        each(kind, folder / kind.__name__, checks)
+
+
+def each(kind, folder, checks):
+    kept = kind(folder)
+    with checks.group(f"{kind.called}a new state is synced, renamed, and then its folder is synced") as group:
+        for words in kind.changes:
             (status, _, complaint), lines = watched(kept, words)
             group.same(words, (0, "", ["file", "rename", "folder"]), (status, complaint, lines))
-    with checks.group("where it cannot be synced, the state is as it was, and nothing is left beside it") as group:
-        for words in CHANGES:
-            kept = Kept(folder / "synced")
+    with checks.group(f"{kind.called}where it cannot be synced, the state is as it was, and nothing is left beside it") as group:
+        for words in kind.changes:
+            kept = kind(folder)
             (status, _, complaint), lines = watched(kept, words, "file")
             group.same(words, (2, "zikhrodan: module.state: Input/output error\n", ["file"]), (status, complaint, lines))
-            group.same(f"{words}: the 688 bytes, and other files", (True, []), (kept.agrees(), kept.others()))
-    with checks.group("where its folder cannot be synced, the state is the new one, and that is said") as group:
-        for words, on_paper in CHANGES.items():
-            kept = Kept(folder / "synced")
+            group.same(f"{words}: the state, and other files", (True, []), (kept.agrees(), kept.others()))
+    with checks.group(f"{kind.called}where its folder cannot be synced, the state is the new one, and that is said") as group:
+        for words, on_paper in kind.changes.items():
+            kept = kind(folder)
             on_paper(kept.paper)
             (status, _, complaint), lines = watched(kept, words, "folder")
             expected = "zikhrodan: module.state: it is replaced, but may not last a loss of power: Input/output error\n"
             group.same(words, (2, expected, ["file", "rename", "folder"]), (status, complaint, lines))
-            group.same(f"{words}: the 688 bytes, and other files", (True, []), (kept.agrees(), kept.others()))
+            group.same(f"{words}: the state, and other files", (True, []), (kept.agrees(), kept.others()))

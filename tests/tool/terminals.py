@@ -10,7 +10,7 @@ import subprocess
 import time
 
 import logs
-from station import CALM, LOSS, PATIENCE, Kept, command, settled, start, wait_in_turn, waits
+from station import CALM, LOSS, PATIENCE, Kept, KeptEight, command, settled, start, wait_in_turn, waits
 from transcript import environment
 
 COLOUR = re.compile("\33\\[[0-9;]*m")
@@ -55,24 +55,34 @@ def with_log(kept):
     return kept
 
 
+FOUR_TOLD = (("demo",), ("read", "module.state", "recorder", 2, 1), ("watch", "module.state", "loss.rows"),
+             ("show", "module.state"), ("show", "module.state", "--hex"), ("log", "show", "loss.log"), ("died", "loss.log"),
+             ("died", "loss.log", "rx2"))
+EIGHT_TOLD = (("demo", "--eight"), ("read", "module.state", "recorder", 2, 1), ("watch", "module.state", "both.rows"),
+              ("show", "module.state"), ("show", "module.state", "--all"), ("show", "module.state", "--hex"))
+
+
+def coloured(kept, words, checks):
+    with checks.group(f"{kept.called}{words[0]}: colours on a terminal; none with NO_COLOR (also empty), TERM=dumb, in a pipe") \
+            as group:
+        kept.put()
+        plain = subprocess.run(command(*words), check=True, **settled(kept.folder)).stdout.decode()
+        group.same("in a pipe", False, "\33" in plain)
+        kept.put()
+        shown = Terminal(kept.folder, *words).end()[1]
+        group.same("on a terminal", True, COLOUR.search(shown) is not None)
+        group.same("but for the colours the same text", plain, COLOUR.sub("", shown))
+        for setting in ({"NO_COLOR": "1"}, {"NO_COLOR": ""}, {"TERM": "dumb"}):
+            kept.put()
+            group.same(setting, (0, plain), Terminal(kept.folder, *words, setting=setting).end()[:2])
+        kept.put()
+        group.same("with standard error alone on a terminal", plain, Terminal(kept.folder, *words, on=("stderr",)).end()[2])
+
+
 def colours(folder, checks):
-    kept = with_log(Kept(folder / "colours"))
-    for words in (("demo",), ("read", "module.state", "recorder", 2, 1), ("watch", "module.state", "loss.rows"),
-                  ("show", "module.state"), ("show", "module.state", "--hex"), ("log", "show", "loss.log"), ("died", "loss.log"),
-                  ("died", "loss.log", "rx2")):
-        with checks.group(f"{words[0]}: colours on a terminal; none with NO_COLOR (also empty), TERM=dumb, in a pipe") as group:
-            kept.put()
-            plain = subprocess.run(command(*words), check=True, **settled(kept.folder)).stdout.decode()
-            group.same("in a pipe", False, "\33" in plain)
-            kept.put()
-            shown = Terminal(kept.folder, *words).end()[1]
-            group.same("on a terminal", True, COLOUR.search(shown) is not None)
-            group.same("but for the colours the same text", plain, COLOUR.sub("", shown))
-            for setting in ({"NO_COLOR": "1"}, {"NO_COLOR": ""}, {"TERM": "dumb"}):
-                kept.put()
-                group.same(setting, (0, plain), Terminal(kept.folder, *words, setting=setting).end()[:2])
-            kept.put()
-            group.same("with standard error alone on a terminal", plain, Terminal(kept.folder, *words, on=("stderr",)).end()[2])
+    for kept, told in ((with_log(Kept(folder / "colours")), FOUR_TOLD), (KeptEight(folder / "eight"), EIGHT_TOLD)):
+        for words in told:
+            coloured(kept, words, checks)
 
 
 def slowly(kept, terminal, rows):

@@ -5,7 +5,7 @@ from concurrent.futures import ThreadPoolExecutor
 
 from bench import IMAGE
 from feed import sample
-from station import CALM, CHANGES, PATIENCE, Kept, start, wait_in_turn
+from station import CALM, KINDS, PATIENCE, Kept, start, wait_in_turn
 
 PORTS = ("operator", "recorder")
 WRITES = {87: 30, 88: 30, 98: 30}  # the operator's bytes, and how often each is written
@@ -85,10 +85,10 @@ def writes(checks, folder):
         group.same("other files", [], kept.others())
 
 
-def in_turn(checks, folder):
-    with checks.group("each command that changes a state waits while another has it") as group:
-        kept = Kept(folder / "turn")
-        changes = [(words[0], kept.path.name, *words[1:]) for words in CHANGES]
+def in_turn(kind, checks, folder):
+    with checks.group(f"{kind.called}each command that changes a state waits while another has it") as group:
+        kept = kind(folder / f"turn-{kind.__name__}")
+        changes = [(words[0], kept.path.name, *words[1:]) for words in kind.changes]
         lock = os.open(kept.folder, os.O_RDONLY)
         fcntl.flock(lock, fcntl.LOCK_EX)
         processes = [start(kept.folder, *words) for words in changes]
@@ -105,4 +105,5 @@ def run(folder, checks):
     flags(checks, folder, 2)
     flags(checks, folder, 4)
     writes(checks, folder)
-    in_turn(checks, folder)
+    for kind in KINDS:
+        in_turn(kind, checks, folder)

@@ -1,5 +1,5 @@
 #!/usr/bin/env python3
-"""tool.py: the station's tool, held to document 01, to its help and to the docs. Started by tests/tool/run.
+"""tool.py: the station's tool, held to document 01 and document 02, to its help and to the docs. Started by tests/tool/run.
 
 Prints a line for each check and 'N passed, M failed'; exit status 1 if M > 0.
 """
@@ -12,6 +12,7 @@ import decimals
 import died
 import died_hours
 import disk
+import eight
 import examples
 import keys
 import kills
@@ -38,10 +39,10 @@ import terminals
 import together
 from bench import Checks, settle
 
-PARTS = {part.__name__: part for part in (rules, manual, stored, examples, keys, outputs, disk, synced, kills, together, pauses,
-                                           links, terminals, log_kills, log_moments, log_power, log_together, log_hardships,
-                                           log_outputs, log_costs, decimals, died, died_hours, report, report_whole, report_drawn,
-                                           report_looks, report_hardships)}
+PARTS = {part.__name__: part for part in (rules, manual, stored, examples, keys, eight, outputs, disk, synced, kills, together,
+                                           pauses, links, terminals, log_kills, log_moments, log_power, log_together,
+                                           log_hardships, log_outputs, log_costs, decimals, died, died_hours, report,
+                                           report_whole, report_drawn, report_looks, report_hardships)}
 
 
 def main(names):
