@@ -1,5 +1,6 @@
 /* cases.c: the calls that are measured. See cases.h. */
 #include "cases.h"
+#include "eight.h"
 #include "logs.h"
 
 #include <string.h>
@@ -18,14 +19,16 @@ static const uint8_t all_ff[ZIKHRODAN_SAMPLE_LEN] = {
     0xff, 0xff, 0xff, 0xff, 0xff, 0xff, 0xff, 0xff, 0xff, 0xff, 0xff, 0xff, 0xff, 0xff, 0xff, 0xff,
     0xff, 0xff, 0xff, 0xff, 0xff, 0xff, 0xff, 0xff, 0xff, 0xff, 0xff, 0xff, 0xff, 0xff, 0xff,
 };
+static const uint8_t nothing[ZIKHRODAN_DD_SAMPLE_LEN];
 /* Every status bit but Rx3's loss of signal. */
 static const uint8_t all_but_rx3[ZIKHRODAN_SAMPLE_LEN] = {0xfb, 0xff, 0xff};
 /* Page 02h is the first byte, so that a write of it at 127 selects what was selected. */
-static const uint8_t written[ZIKHRODAN_WRITE_MAX] = {2, 0x50, 0xa0, 0xf0};
+const uint8_t written[ZIKHRODAN_WRITE_MAX] = {2, 0x50, 0xa0, 0xf0};
 
 #define OF_LOWER(n) READ, .port = 1, .address = 0, .count = n
 #define OF_PAGE(p, n) READ, .page = p, .port = 1, .address = 128, .count = n
 #define WRITTEN(p, a, n) WRITE, .page = p, .port = 1, .address = a, .count = n
+#define EIGHT(what, a, n) EIGHT_##what, .port = 1, .address = a, .count = n
 #define A_LOG_OF(s, n, l) .sample = s, .used = 1, .each = n, .last = l
 #define A_LOG(n, l) A_LOG_OF(in_range, n, l)
 #define OF_FULL A_LOG(16, 16)
@@ -81,6 +84,27 @@ const struct one_call cases[] = {
     {"limits refusal, temperature", LIMITS, .number = ZIKHRODAN_OF_TEMPERATURE},
     {"limit, temperature", LIMIT, .number = ZIKHRODAN_OF_TEMPERATURE},
     {"limit, Tx power", LIMIT, .number = ZIKHRODAN_OF_TX_POWER},
+    {"eight reset", .call = EIGHT_RESET},
+    {"eight reset: refused 1", EIGHT_RESET, .wrong = STATE_SIZE, .refusal = 1},
+    {"eight sample, no condition", EIGHT_SAMPLE, .sample = nothing},
+    {"eight sample, all FFh", EIGHT_SAMPLE, .sample = all_ff},
+    {"eight sample, all FFh again", EIGHT_SAMPLE, .sample = all_ff, .again = true},
+    {"eight sample: refused 3", EIGHT_SAMPLE, .sample = all_ff, .wrong = RECORD_BIT, .refusal = 3},
+    {"eight sample: refused 8", EIGHT_SAMPLE, .sample = all_ff, .wrong = SAMPLE_SIZE, .refusal = 8},
+    {"eight read 1, at 60", EIGHT(READ, 60, 1)},
+    {"eight read 1, the flags at 3", EIGHT(READ, 3, 1)},
+    {"eight read 14, the flags at 3", EIGHT(READ, 3, 14)},
+    {"eight read 14, the masks at 102", EIGHT(READ, 102, 14)},
+    {"eight read 128, at 0", EIGHT(READ, 0, 128)},
+    {"eight read: refused 2", EIGHT_READ, .port = 3, .count = 1, .refusal = 2},
+    {"eight read: refused 3", EIGHT(READ, 0, 1), .wrong = RECORD_BIT, .refusal = 3},
+    {"eight read: refused 4", EIGHT(READ, 0, 0), .refusal = 4},
+    {"eight read: refused 5", EIGHT(READ, 127, 2), .refusal = 5},
+    {"eight read: refused 6", EIGHT(READ, 0, 128), .wrong = OUT_SIZE, .refusal = 6},
+    {"eight write 1, at 60", EIGHT(WRITE, 60, 1)},
+    {"eight write 1, mask at 102", EIGHT(WRITE, 102, 1)},
+    {"eight write 1, recorder at 101: refused 7", EIGHT_WRITE, .port = 2, .address = 101, .count = 1, .refusal = 7},
+    {"eight write 4, masks at 102", EIGHT(WRITE, 102, 4)},
     {"log add, full blocks, into a new one", LOG_ADD, OF_FULL},
     {"log add, full blocks but for the last", LOG_ADD, A_LOG(16, 15)},
     {"log add, half-full blocks", LOG_ADD, OF_HALF},
@@ -139,6 +163,8 @@ bool set_up(const struct one_call *c)
     memcpy(records, state + RECORDS_AT, sizeof records);
     state[ZIKHRODAN_PAGE_00_AT] += c->unsound >= 1;
     image[ZIKHRODAN_PAGE_00_AT] += c->unsound >= 2;
+    if (is_eight(c))
+        refused |= set_up_eight(c);
     if (c->used)
         set_up_log(c);
     return refused == 0;
@@ -147,6 +173,8 @@ bool set_up(const struct one_call *c)
 void put_back(const struct one_call *c)
 {
     memcpy(state + RECORDS_AT, records, sizeof records);
+    if (is_eight(c))
+        put_back_eight();
     if (c->used)
         put_back_log(c);
 }
@@ -173,6 +201,6 @@ uint64_t make(const struct one_call *c)
     case VALUE: return bits(zikhrodan_monitor_value(state, sizeof state, c->number));
     case LIMITS: return zikhrodan_limits_refusal(state, sizeof state, c->number);
     case LIMIT: return bits(zikhrodan_limit(state, sizeof state, c->number, ZIKHRODAN_HIGH_ALARM));
-    default: return make_log(c);
+    default: return is_eight(c) ? make_eight(c) : make_log(c);
     }
 }

@@ -1,5 +1,5 @@
 """counting.py: runs the programs that bench/run has built, counts and times their calls, and lays the numbers out. Imported by
-measure.py, logs.py and store.py.
+measure.py, eight.py, logs.py and store.py.
 
 A run of some repeats less a run of fewer is the calls between and what the program does around each; the program with the idle
 engine takes the latter and one instruction a call. EMULATOR is set by measure.py; it is empty on x86-64.
@@ -64,6 +64,20 @@ def instructions(engine, case, repeats):
     return int(re.search(r"Collected : (\d+)", said).group(1))
 
 
+def agree(cases, engines):
+    """Ends all if an engine leaves or answers something else than another."""
+    for case in cases:
+        seen = {engine: program(engine, "show", case[0], "3", *case[1:]) for engine in engines}
+        for engine in engines:
+            if seen[engine] != seen["library"]:
+                stop(1, f"{' '.join(case)}: {engines[engine]} and the library differ")
+    print(f"-- the engines agree on every byte of {len(cases)} cases")
+
+
+def is_eight(case):
+    return case[0].startswith("eight")
+
+
 def is_log(case):
     return case[0].startswith("log")
 
@@ -82,16 +96,16 @@ def costs(engines, cases):
     return {(e, c): between(e, c) - between("idle", c) + 1 for e in engines for c in cases}
 
 
-def times(cases):
+def times(cases, engines=ENGINES):
     """The nanoseconds of one call, {(engine, case): number}: the best of five rounds through all cases, so that the rounds of one
     case lie apart, without what the loop around it takes."""
     best = {}
     for _ in range(5):
         for case in cases:
-            for engine in (*ENGINES, "idle"):
+            for engine in (*engines, "idle"):
                 taken = float(program(engine, "time", *case))
                 best[engine, case] = min(taken, best.get((engine, case), taken))
-    return {(e, c): best[e, c] - best["idle", c] for e in ENGINES for c in cases}
+    return {(e, c): best[e, c] - best["idle", c] for e in engines for c in cases}
 
 
 # ---- tables

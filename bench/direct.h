@@ -1,4 +1,4 @@
-/* direct.h: a plain C engine, to measure the library beside: the thirteen functions of zikhrodan.h with the prefix direct_. That
+/* direct.h: a plain C engine, to measure the library beside: the seventeen functions of zikhrodan.h with the prefix direct_. That
  * header itself declares them, under these names, so a source has one engine or the other. */
 #ifndef DIRECT_H
 #define DIRECT_H
@@ -16,6 +16,10 @@
 #define zikhrodan_log_power_up direct_log_power_up
 #define zikhrodan_log_sample direct_log_sample
 #define zikhrodan_log_first direct_log_first
+#define zikhrodan_dd_reset direct_dd_reset
+#define zikhrodan_dd_sample direct_dd_sample
+#define zikhrodan_dd_read direct_dd_read
+#define zikhrodan_dd_write direct_dd_write
 
 #include "../include/zikhrodan.h"
 

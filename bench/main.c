@@ -2,14 +2,17 @@
  *
  *   PROGRAM list                         the names of the cases
  *   PROGRAM make CASE REPEATS [COUNT]    makes the calls and prints nothing
- *   PROGRAM show CASE REPEATS [COUNT]    makes them, and prints the last answer, the state, the output memory and what the last
+ *   PROGRAM show CASE REPEATS [COUNT]    makes them, and prints the last answer, the states, the output memory and what the last
  *                                        call changed in the log
  *   PROGRAM time CASE [COUNT]            nanoseconds of one call, with the loop around it, of 20 ms or more of them
+ *   PROGRAM random CALLS                 makes so many calls on the eight-channel module, each of them some call, the same for every
+ *                                        engine, and prints a number that depends on every answer and byte
  *
  * COUNT is the length of the read or write, or the log's used blocks, in place of the case's own. Each call finds the same
  * records and log, so that a read finds the flags up that the read before it cleared. Exit status 1 if a call does not answer as
  * its case says, 2 if it cannot be made. */
 #include "cases.h"
+#include "eight.h"
 #include "logs.h"
 
 #include <inttypes.h>
@@ -54,6 +57,7 @@ static void show(const struct one_call *c)
         stop(1, "it does not find the sample that its case says", c->name);
     printf("answer %016" PRIx64 "\n", answer);
     print_bytes("state", state, sizeof state);
+    print_bytes("eight", eight, sizeof eight);
     print_bytes("out", out, sizeof out);
     show_log();
 }
@@ -114,16 +118,20 @@ int main(int count, char **words)
         list();
         return 0;
     }
+    if (count == 3 && !strcmp(words[1], "random")) {
+        printf("%016" PRIx64 "\n", some_calls(number(words[2])));
+        return 0;
+    }
     bool timed = count >= 3 && !strcmp(words[1], "time"), shown = count >= 4 && !strcmp(words[1], "show");
     bool made = count >= 4 && !strcmp(words[1], "make");
     int most = timed ? 4 : 5;
     if (count > most || !(timed || shown || made))
-        stop(2, "list | make CASE REPEATS [COUNT] | show CASE REPEATS [COUNT] | time CASE [COUNT]", "usage");
+        stop(2, "list | make CASE REPEATS [COUNT] | show CASE REPEATS [COUNT] | time CASE [COUNT] | random CALLS", "usage");
 
     struct one_call c = find(words[2]);
     if (count == most)
         *(c.used ? &c.used : &c.count) = number(words[most - 1]);
-    if (c.count > ZIKHRODAN_READ_MAX || (c.call == WRITE && c.count > ZIKHRODAN_WRITE_MAX) || c.used > MOST_USED)
+    if (c.count > ZIKHRODAN_READ_MAX || ((c.call == WRITE || c.call == EIGHT_WRITE) && c.count > ZIKHRODAN_WRITE_MAX) || c.used > MOST_USED)
         stop(2, "more bytes than are lent", words[most - 1]);
     if (c.call >= LOG_ADD && c.used == 0)
         stop(2, "no block is used", words[most - 1]);

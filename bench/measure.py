@@ -1,6 +1,6 @@
 """measure.py: counts and times the calls of the programs that bench/run has built, and prints the tables.
 
-  python3 -B bench/measure.py --table | --check | --limits | --growth | --store EMULATOR TOOLCHAIN COMPILER COUNTER
+  python3 -B bench/measure.py --table | --check | --limits | --growth | --store | --store-eight EMULATOR TOOLCHAIN COMPILER COUNTER
 
 EMULATOR is empty on x86-64; TOOLCHAIN is what the library was compiled by, COMPILER what plain C was, COUNTER what counts. Exit
 status as bench/run says.
@@ -10,22 +10,14 @@ import signal
 import sys
 
 import counting
+import eight
 import logs
 import store
-from counting import ENGINES, costs, is_log, marks, program, shown, stop, table, times
+from counting import ENGINES, agree, costs, is_eight, is_log, marks, program, shown, stop, table, times
 
-LIMITS = {"reset": 500, "sample": 1500, "read 128": 1300, "write 1": 350}  # by how a case's name begins; logs.LIMITS has more
+LIMITS = {"reset": 500, "sample": 1500, "read 128": 1300, "write 1": 350}  # by how a case's name begins; logs and eight have more
+SECTION = "The table"  # of the stored text, that says what its tables are by, but for eight.SECTION's
 MODE, counting.EMULATOR, TOOLCHAIN, COMPILER, COUNTER = sys.argv[1:]
-
-
-def check(cases):
-    """Ends all if an engine leaves or answers something else than another."""
-    for case in cases:
-        seen = {engine: program(engine, "show", case[0], "3", *case[1:]) for engine in ENGINES}
-        for engine in ENGINES:
-            if seen[engine] != seen["library"]:
-                stop(1, f"{' '.join(case)}: {ENGINES[engine]} and the library differ")
-    print(f"-- the engines agree on every byte of {len(cases)} cases")
 
 
 def the_table(cases):
@@ -55,23 +47,14 @@ def growth():
     engines = list(ENGINES)[:2]
     for lengths, names in ((reads, ("read 128, lower memory", "read 128, page 02h")), (writes, ("write 4, page 02h",))):
         cases = [(name, length) for length in lengths for name in names]
-        check(cases)
+        agree(cases, ENGINES)
         cost = costs(engines, cases)
         heads = [name.replace(lengths[-1], "n") + ": " + ENGINES[engine] for name in names for engine in engines]
         table(["n", *heads], [[n, *(shown(cost[e, (name, n)]) for name in names for e in engines)] for n in lengths])
         marks(cost.values())
 
 
-def stored():
-    """The text with the stored tables; nothing where they are of another toolchain."""
-    text = store.text()
-    if store.by(TOOLCHAIN) in text:
-        return text
-    print(f"-- the tables of {store.STORED} are of another toolchain, and are not compared")
-    return ""
-
-
-def limits(cases, names_of_logs):
+def limits(cases, names_of_logs, cases_of_eight):
     most = {case: LIMITS[start] for case in cases for start in LIMITS if case[0].startswith(start)}
     if set(most.values()) != set(LIMITS.values()):
         stop(2, "a limit has no case")
@@ -84,12 +67,13 @@ def limits(cases, names_of_logs):
         verdicts[said] = cost["library", case] <= most[case]
     of_logs, log_numbers = logs.limits(names_of_logs)
     verdicts |= of_logs
-    text = stored()
+    text = store.of(SECTION, TOOLCHAIN)
     if text:
         rows = re.findall(r"^\| ([^|]+?) +\| +(\d+) \|(?: +\S+ \|){4}", text, re.M)
         table_has = {(name,): number for name, number in rows if (name,) in most}
         right = table_has == {case: shown(cost["library", case]) for case in most}
-        verdicts[f"these are the numbers of {store.STORED}"] = right and log_numbers.items() <= logs.stored(text).items()
+        verdicts[f"these are the numbers of {store.STORED}, {SECTION} and of logs"] = right and log_numbers.items() <= logs.stored(text).items()
+    verdicts |= eight.limits(cases_of_eight, TOOLCHAIN)
     for said, right in verdicts.items():
         print(f"{'ok' if right else 'FAILED'} {said}")
     marks(cost.values())
@@ -100,17 +84,26 @@ def limits(cases, names_of_logs):
 
 signal.signal(signal.SIGPIPE, signal.SIG_DFL)
 every = [(name,) for name in program("library", "list").splitlines()]
-cases, names_of_logs = [case for case in every if not is_log(case)], [case[0] for case in every if is_log(case)]
+names_of_logs, cases_of_eight = [case[0] for case in every if is_log(case)], [case for case in every if is_eight(case)]
+cases = [case for case in every if not is_log(case) and not is_eight(case)]
 if MODE == "--limits":
-    limits(cases, names_of_logs)
-if MODE == "--store" and counting.EMULATOR:
+    limits(cases, names_of_logs, cases_of_eight)
+if MODE.startswith("--store") and counting.EMULATOR:
     stop(2, f"the tables of {store.STORED} have times, which an emulator has not")
 print(f"-- the library by {TOOLCHAIN}\n-- plain C by {COMPILER}\n-- counted by {COUNTER}", flush=True)
+if MODE not in ("--growth", "--store-eight"):
+    agree(cases + logs.cases(names_of_logs), ENGINES)
 if MODE != "--growth":
-    check(cases + logs.cases(names_of_logs))
+    eight.check(cases_of_eight)
 if MODE in ("--table", "--store"):
     reached(the_table(cases) | logs.tables(names_of_logs))
 if MODE in ("--growth", "--store"):
     growth()
-if MODE == "--store":
-    store.put(counting.PRINTED, TOOLCHAIN, COMPILER, COUNTER)
+OTHERS = len(counting.PRINTED)
+if MODE in ("--table", "--store", "--store-eight"):
+    eight.tables(cases_of_eight)
+if MODE in ("--growth", "--store", "--store-eight"):
+    eight.growth()
+if MODE.startswith("--store"):
+    tables = {SECTION: counting.PRINTED[:OTHERS]} if MODE == "--store" else {}
+    store.put(tables | {eight.SECTION: counting.PRINTED[OTHERS:]}, TOOLCHAIN, COMPILER, COUNTER)
