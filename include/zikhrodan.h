@@ -1,15 +1,15 @@
-/* zikhrodan.h: the register logic of a QSFP28 module with two management ports, for C and C++.
+/* zikhrodan.h: the register logic of a QSFP28 module with two management ports, and of an eight-channel one, for C and C++.
  *
- * Link libzikhrodan.a (x86-64). The library keeps nothing between calls and allocates nothing: a module is 688 bytes that the caller
- * lends. Any bytes, lengths and numbers may be passed; each call refuses what it cannot take, and a refused call changes no byte.
+ * Link libzikhrodan.a (x86-64). The library keeps nothing between calls and allocates nothing: a module is 688 bytes, or 98, that the
+ * caller lends. Any bytes, lengths and numbers may be passed; each call refuses what it cannot take, and a refused call changes no byte.
  *
  * What the caller owes, and all of it:
  *   - each pointer is good for as many bytes as the length beside it says (for none where that is 0; it may then be null);
  *   - memory lent to one call does not overlap, and nobody else touches it during the call.
  *
- * What each call does is document 01's, and of a log document 02's (Ask 1, Ask 9); it is proved for every input:
- * docs/EXAMINER.md says of what, and what is assumed. The helpers and names of this header are not proved: they take an
- * answer apart, or name a number, and decide nothing. */
+ * What each call does is document 01's, of a log document 02's (Ask 1, Ask 9), of the eight-channel module its Ask 6; it is proved
+ * for every input: docs/EXAMINER.md says of what, and what is assumed. The helpers and names of this header are not proved: they
+ * take an answer apart, or name a number, and decide nothing. */
 #ifndef ZIKHRODAN_H
 #define ZIKHRODAN_H
 

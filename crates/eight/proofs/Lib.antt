@@ -8,4 +8,5 @@ pub mod Shown
 pub mod Interrupt
 pub mod Demand3
 pub mod Writes
+pub mod Chain
 pub mod Vectors
