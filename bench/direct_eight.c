@@ -76,24 +76,32 @@ uint32_t direct_dd_sample(uint8_t *state, size_t state_len, const uint8_t *sampl
     return let_through(&m->records[0]) << 8 | let_through(&m->records[1]) << 16;
 }
 
-uint32_t direct_dd_read(uint8_t *state, size_t state_len, uint64_t port, uint64_t address, uint64_t count, uint8_t *out,
-                        size_t out_len)
+/* What a read and a write refuse alike: the most bytes differ. */
+static uint32_t run_refusal(const struct module *m, size_t state_len, uint64_t port, uint64_t address, uint64_t count,
+                            uint64_t most)
 {
-    struct module *m = (struct module *)state;
-
     if (state_len != sizeof *m)
         return 1;
     if (port != ZIKHRODAN_OPERATOR && port != ZIKHRODAN_RECORDER)
         return 2;
-    struct record *r = &m->records[port - 1];
-    if (!is_sound(r))
+    if (!is_sound(&m->records[port - 1]))
         return 3;
-    if (count == 0 || count > READ_MOST)
+    if (count == 0 || count > most)
         return 4;
-    if (address > ADDRESSES || address + count > ADDRESSES)
-        return 5;
+    return address > ADDRESSES || address + count > ADDRESSES ? 5 : 0;
+}
+
+uint32_t direct_dd_read(uint8_t *state, size_t state_len, uint64_t port, uint64_t address, uint64_t count, uint8_t *out,
+                        size_t out_len)
+{
+    struct module *m = (struct module *)state;
+    uint32_t refusal = run_refusal(m, state_len, port, address, count, READ_MOST);
+
+    if (refusal)
+        return refusal;
     if (out_len < count)
         return 6;
+    struct record *r = &m->records[port - 1];
     for (uint64_t n = 0; n < count; n++) {
         uint64_t at = address + n;
         if (is_flag_byte(at)) {
@@ -112,18 +120,11 @@ uint32_t direct_dd_read(uint8_t *state, size_t state_len, uint64_t port, uint64_
 uint32_t direct_dd_write(uint8_t *state, size_t state_len, uint64_t port, uint64_t address, const uint8_t *data, size_t data_len)
 {
     struct module *m = (struct module *)state;
+    uint32_t refusal = run_refusal(m, state_len, port, address, data_len, WRITE_MOST);
 
-    if (state_len != sizeof *m)
-        return 1;
-    if (port != ZIKHRODAN_OPERATOR && port != ZIKHRODAN_RECORDER)
-        return 2;
+    if (refusal)
+        return refusal;
     struct record *r = &m->records[port - 1];
-    if (!is_sound(r))
-        return 3;
-    if (data_len == 0 || data_len > WRITE_MOST)
-        return 4;
-    if (address > ADDRESSES || address + data_len > ADDRESSES)
-        return 5;
     if (port == ZIKHRODAN_RECORDER && !(is_mask_byte(address) && is_mask_byte(address + data_len - 1)))
         return 7;
     for (size_t n = 0; n < data_len; n++)

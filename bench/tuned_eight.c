@@ -2,21 +2,10 @@
  * wrong bits of a record asked for in the two bytes that can have one, no loop, and no count where it must be 0. In place of
  * direct_eight.c; see direct.h. */
 #include "direct.h"
-
-#include <emmintrin.h>
-#include <string.h>
-
-#define INLINE static inline __attribute__((always_inline))
+#include "tuned_bytes.h"
 
 enum { STATE = 98, BYTES = 14, OPERATOR_AT = 14, RECORD = 42, MASKS_IN = 14, PENDING_IN = 28 };
 enum { FLAGS = 3, FLAGS_END = FLAGS + BYTES, MASKS = 102, MASKS_END = MASKS + BYTES, END = 128 };
-
-#define ACCESS(bits)                                                                                                             \
-    INLINE uint##bits##_t ld##bits(const uint8_t *p) { uint##bits##_t v; memcpy(&v, p, sizeof v); return v; }                    \
-    INLINE void st##bits(uint8_t *p, uint##bits##_t v) { memcpy(p, &v, sizeof v); }
-ACCESS(16)
-ACCESS(32)
-ACCESS(64)
 
 /* ---- records */
 
@@ -28,9 +17,6 @@ INLINE unsigned wrong_bits(const uint8_t *r)
     return ((unsigned)(ld16(r + IRREGULAR_IN) | ld16(r + PENDING_IN + IRREGULAR_IN)) & NO_FLAG) |
            (ld16(r + MASKS_IN + IRREGULAR_IN) & NO_MASK);
 }
-
-INLINE __m128i ldv(const uint8_t *p) { return _mm_loadu_si128((const __m128i *)p); }
-INLINE void stv(uint8_t *p, __m128i v) { _mm_storeu_si128((__m128i *)p, v); }
 
 /* The pending bits that the masks let through. `pending` has the two bytes before them first, so that sixteen end with the record. */
 INLINE __m128i open_bits(const uint8_t *r, __m128i pending)
@@ -64,24 +50,6 @@ INLINE uint32_t let_through(const uint8_t *r)
 }
 
 /* ---- reset and sample */
-
-/* 1 to 128 zeros: the first half and the last, which may overlap. */
-INLINE void clear(uint8_t *to, size_t n)
-{
-#define FIRST_AND_LAST(many) (memset(to, 0, many), memset(to + n - (many), 0, many))
-    if (n >= 64)
-        FIRST_AND_LAST(64);
-    else if (n >= 32)
-        FIRST_AND_LAST(32);
-    else if (n >= 16)
-        FIRST_AND_LAST(16);
-    else if (n >= 8)
-        FIRST_AND_LAST(8);
-    else if (n >= 4)
-        FIRST_AND_LAST(4);
-    else
-        to[0] = to[n >> 1] = to[n - 1] = 0;
-}
 
 uint32_t direct_dd_reset(uint8_t *state, size_t state_len)
 {
@@ -120,22 +88,18 @@ uint32_t direct_dd_sample(uint8_t *restrict state, size_t state_len, const uint8
 
 /* ---- read */
 
-/* 1 to 14 bytes, the first and the last of them likewise. */
-INLINE void copy(uint8_t *restrict to, const uint8_t *restrict from, size_t n)
+/* What a read and a write refuse alike: the most bytes differ. */
+INLINE uint32_t run_refusal(const uint8_t *state, size_t state_len, uint64_t port, uint64_t address, uint64_t count, uint64_t most)
 {
-    if (n >= 8) {
-        uint64_t last = ld64(from + n - 8);
-        st64(to, ld64(from));
-        st64(to + n - 8, last);
-    } else if (n >= 4) {
-        uint32_t last = ld32(from + n - 4);
-        st32(to, ld32(from));
-        st32(to + n - 4, last);
-    } else {
-        to[0] = from[0];
-        to[n >> 1] = from[n >> 1];
-        to[n - 1] = from[n - 1];
-    }
+    if (state_len != STATE)
+        return 1;
+    if (port - 1 > 1)
+        return 2;
+    if (wrong_bits(state + OPERATOR_AT + RECORD * (port - 1)))
+        return 3;
+    if (count - 1 > most - 1)
+        return 4;
+    return address > END - count ? 5 : 0;
 }
 
 /* What the run from `address` to before `end` shares with the fourteen bytes at `at`. */
@@ -154,20 +118,13 @@ uint32_t direct_dd_read(uint8_t *restrict state, size_t state_len, uint64_t port
                         uint8_t *restrict out, size_t out_len)
 {
     uint64_t end = address + count;
+    uint32_t refusal = run_refusal(state, state_len, port, address, count, ZIKHRODAN_READ_MAX);
 
-    if (state_len != STATE)
-        return 1;
-    if (port - 1 > 1)
-        return 2;
-    uint8_t *r = state + OPERATOR_AT + RECORD * (port - 1);
-    if (wrong_bits(r))
-        return 3;
-    if (count - 1 > ZIKHRODAN_READ_MAX - 1)
-        return 4;
-    if (address > END - count)
-        return 5;
+    if (refusal)
+        return refusal;
     if (out_len < count)
         return 6;
+    uint8_t *r = state + OPERATOR_AT + RECORD * (port - 1);
     if (address < FLAGS || end > FLAGS_END)
         clear(out, count);
     if (end > MASKS && address < MASKS_END) {
@@ -191,33 +148,17 @@ uint32_t direct_dd_read(uint8_t *restrict state, size_t state_len, uint64_t port
 
 /* ---- write */
 
-/* 1 to 4 bytes as a number, the first the lowest. */
-INLINE uint32_t word_of(const uint8_t *data, size_t n)
-{
-    if (n == 4)
-        return ld32(data);
-    if (n == 1)
-        return data[0];
-    return data[0] | (uint32_t)data[n >> 1] << 8 * (n >> 1) | (uint32_t)data[n - 1] << 8 * (n - 1);
-}
-
 uint32_t direct_dd_write(uint8_t *restrict state, size_t state_len, uint64_t port, uint64_t address, const uint8_t *restrict data,
                          size_t data_len)
 {
     /* the bits of the masks 102 to 115, and no bit behind them, where a write may end */
     static const uint8_t bits[BYTES + 3] = {0xff, 0xff, 0xff, 0xff, 0xff, 0xf0, 0xce, 0xff, 0xff, 0xff, 0xff, 0xff, 0xff, 0xff};
 
-    if (state_len != STATE)
-        return 1;
-    if (port - 1 > 1)
-        return 2;
+    uint32_t refusal = run_refusal(state, state_len, port, address, data_len, ZIKHRODAN_WRITE_MAX);
+
+    if (refusal)
+        return refusal;
     uint8_t *r = state + OPERATOR_AT + RECORD * (port - 1);
-    if (wrong_bits(r))
-        return 3;
-    if (data_len - 1 > ZIKHRODAN_WRITE_MAX - 1)
-        return 4;
-    if (address > END - data_len)
-        return 5;
     if (port == ZIKHRODAN_RECORDER && (address < MASKS || address + data_len > MASKS_END))
         return 7;
     if (address + data_len > MASKS && address < MASKS_END) {

@@ -12,74 +12,18 @@
 #include "engines.h"
 #include "generate.h"
 #include "groups.h"
+#include "pair.h"
 #include "random.h"
-#include "text.h"
 
 #include <inttypes.h>
 #include <string.h>
 
-enum { OUTPUT_ROOM = 2048 };
-
-/* What differs from one module to the other. */
-static const struct module {
-    size_t len, recorder_at, record_len;
-    size_t untouched;                           /* so many bytes at its front no port's call changes */
-    struct call (*right_reset)(void);           /* one that is accepted */
-    struct call (*reset)(void);
-    struct call (*sample)(const uint8_t *state);
-    struct call (*read)(uint64_t port), (*write)(uint64_t port);
-    bool eight;
-} *module;
-
-static struct run {
-    uint8_t state[STATE_LEN], out[OUTPUT_ROOM]; /* the state has module->len bytes */
-    uint64_t answer;
-    struct list list;
-} a, b;
-
 static uint64_t excused, excused_differed, varied, mattered, dropped, records_differed;
-
-static void print_runs(void)
-{
-    puts("# run A");
-    text_print(&a.list, stdout);
-    puts("# run B");
-    text_print(&b.list, stdout);
-}
-
-static void make(struct run *run, const struct call *call)
-{
-    struct lent lent = { run->state, module->len, call->first.at, NULL, call->out_null ? NULL : run->out };
-    list_add(&run->list, call);
-    memset(run->out, call->fill, OUTPUT_ROOM);
-    run->answer = by_library(call, &lent);
-    count_calls(1);
-}
-
-static void make_on_both(const struct call *call)
-{
-    make(&a, call);
-    make(&b, call);
-}
-
-static void begin_both(void)
-{
-    uint8_t state[STATE_LEN];
-    random_fill(state, module->len);
-    memcpy(a.state, state, module->len);
-    memcpy(b.state, state, module->len);
-    list_begin(&a.list, (struct bytes){ state, module->len }, AT_END);
-    list_begin(&b.list, (struct bytes){ state, module->len }, AT_END);
-    struct call reset = module->right_reset();
-    make_on_both(&reset);
-    if (a.answer || b.answer)
-        mismatch("a right reset is refused");
-}
 
 /* The page that the recorder has selected; 0 where there are none. */
 static unsigned recorders_page(void)
 {
-    return module->eight ? 0 : a.state[module->recorder_at + SELECTED];
+    return module->eight ? 0 : run_a.state[module->recorder_at + SELECTED];
 }
 
 /* Document 01's shared list, for a host address while this page is selected. */
@@ -96,16 +40,16 @@ static bool is_shared(unsigned address, unsigned page)
 static void recorder_agrees(const struct call *call, unsigned page)
 {
     uint64_t operator_count = call->kind == RESET || call->kind == SAMPLE ? 0xff00 : 0;
-    if ((a.answer ^ b.answer) & ~operator_count)
-        mismatch("the recorder's answers differ, %06" PRIx64 " and %06" PRIx64, a.answer, b.answer);
+    if ((run_a.answer ^ run_b.answer) & ~operator_count)
+        mismatch("the recorder's answers differ, %06" PRIx64 " and %06" PRIx64, run_a.answer, run_b.answer);
     if (call->kind != READ)
         return;
     for (unsigned i = 0; i < OUTPUT_ROOM; i++) {
-        bool shared = !(a.answer & 0xff) && i < call->count && is_shared((unsigned)call->address + i, page);
+        bool shared = !(run_a.answer & 0xff) && i < call->count && is_shared((unsigned)call->address + i, page);
         excused += shared;
-        excused_differed += shared && a.out[i] != b.out[i];
-        if (!shared && a.out[i] != b.out[i])
-            mismatch("the recorder reads %02x and %02x at output %u", a.out[i], b.out[i], i);
+        excused_differed += shared && run_a.out[i] != run_b.out[i];
+        if (!shared && run_a.out[i] != run_b.out[i])
+            mismatch("the recorder reads %02x and %02x at output %u", run_a.out[i], run_b.out[i], i);
     }
 }
 
@@ -113,7 +57,7 @@ static void recorder_agrees(const struct call *call, unsigned page)
 static void byte_2_agrees(void)
 {
     struct call call = a_read(RECORDER, 2, 1, 1);
-    struct run *runs[2] = { &a, &b };
+    struct run *runs[2] = { &run_a, &run_b };
     uint8_t state[STATE_LEN], out[2];
     for (int i = 0; i < 2; i++) {
         memcpy(state, runs[i]->state, STATE_LEN);
@@ -121,8 +65,8 @@ static void byte_2_agrees(void)
     }
     count_calls(2);
     if (out[0] != out[1]) {
-        list_add(&a.list, &call);
-        list_add(&b.list, &call);
+        list_add(&run_a.list, &call);
+        list_add(&run_b.list, &call);
         mismatch("the recorder's byte 2 is %02x and %02x", out[0], out[1]);
     }
 }
@@ -140,10 +84,10 @@ static void operator_step(void)
     if (how == 0)
         make_on_both(&call);
     else
-        make(how == 1 ? &a : &b, &call);
+        make_on(how == 1 ? &run_a : &run_b, &call);
     if (how > 2) {
         call = port_call(OPERATOR);
-        make(&a, &call);
+        make_on(&run_a, &call);
     }
 }
 
@@ -156,15 +100,15 @@ static void vary_operator(void)
             operator_step();
         } else {
             unsigned page = recorders_page();
-            struct call call = chance(5) ? module->reset() : chance(30) ? module->sample(a.state) : port_call(RECORDER);
+            struct call call = chance(5) ? module->reset() : chance(30) ? module->sample(run_a.state) : port_call(RECORDER);
             make_on_both(&call);
             recorder_agrees(&call, page);
         }
         const size_t operator_at = module->recorder_at - module->record_len;
-        mattered += memcmp(a.state + operator_at, b.state + operator_at, module->record_len) != 0;
-        if (memcmp(a.state + module->recorder_at, b.state + module->recorder_at, module->record_len))
+        mattered += memcmp(run_a.state + operator_at, run_b.state + operator_at, module->record_len) != 0;
+        if (memcmp(run_a.state + module->recorder_at, run_b.state + module->recorder_at, module->record_len))
             mismatch("the recorder's record differs");
-        if (memcmp(a.state, b.state, module->untouched))
+        if (memcmp(run_a.state, run_b.state, module->untouched))
             mismatch("a byte differs that is in no record");
         if (!module->eight)
             byte_2_agrees();
@@ -180,29 +124,28 @@ static void drop_recorder(void)
             struct call call = port_call(RECORDER);
             bool drop = chance(60);
             dropped += drop;
-            make(&a, &call);
+            make_on(&run_a, &call);
             if (!drop)
-                make(&b, &call);
+                make_on(&run_b, &call);
         } else {
-            struct call call = chance(5) ? module->reset() : chance(30) ? module->sample(a.state) : port_call(OPERATOR);
+            struct call call = chance(5) ? module->reset() : chance(30) ? module->sample(run_a.state) : port_call(OPERATOR);
             uint64_t recorder_count = call.kind == RESET || call.kind == SAMPLE ? 0xff0000 : 0;
             make_on_both(&call);
-            if ((a.answer ^ b.answer) & ~recorder_count)
-                mismatch("the operator's answers differ, %06" PRIx64 " and %06" PRIx64, a.answer, b.answer);
-            if (memcmp(a.out, b.out, OUTPUT_ROOM))
+            if ((run_a.answer ^ run_b.answer) & ~recorder_count)
+                mismatch("the operator's answers differ, %06" PRIx64 " and %06" PRIx64, run_a.answer, run_b.answer);
+            if (memcmp(run_a.out, run_b.out, OUTPUT_ROOM))
                 mismatch("the operator reads other bytes");
         }
-        if (memcmp(a.state, b.state, module->recorder_at))
+        if (memcmp(run_a.state, run_b.state, module->recorder_at))
             mismatch("a state byte outside the recorder's record differs");
-        records_differed += memcmp(a.state + module->recorder_at, b.state + module->recorder_at, module->record_len) != 0;
+        records_differed += memcmp(run_a.state + module->recorder_at, run_b.state + module->recorder_at, module->record_len) != 0;
     }
 }
 
 static void pairs(const struct module *which, uint64_t sum)
 {
     random_seed(options.seed);
-    print_with(print_runs);
-    module = which;
+    pair_of(which);
     excused = excused_differed = varied = mattered = dropped = records_differed = 0;
     for (uint64_t pair = 0; pair < options.pairs; pair++) {
         vary_operator();

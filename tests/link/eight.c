@@ -2,21 +2,10 @@
  * 002 and 02 written out here, the words of each refusal, and a short history of both ports.
  *
  * Prints a line for each check that fails, and 'N passed, M failed'; exit status 1 if M > 0. */
-#include <stdio.h>
+#include "check.h"
+
 #include <string.h>
 #include <zikhrodan.h>
-
-static unsigned passed, failed;
-
-static void check(const char *what, int right)
-{
-    if (right) {
-        passed++;
-    } else {
-        failed++;
-        printf("FAILED %s\n", what);
-    }
-}
 
 /* Each flag byte with its mask byte, by the names of Tables 18 and 27. */
 static const struct {
@@ -162,6 +151,5 @@ int main(void)
     words();
     history();
     refusals();
-    printf("%u passed, %u failed\n", passed, failed);
-    return failed > 0;
+    return checked();
 }

@@ -1,21 +1,10 @@
 /* header.c: what zikhrodan.h names and takes apart, compiled as C and as C++. It is compared with the papers' numbers.
  *
  * Prints a line for each check that fails, and 'N passed, M failed'; exit status 1 if M > 0. */
-#include <stdio.h>
+#include "check.h"
+
 #include <string.h>
 #include <zikhrodan.h>
-
-static unsigned passed, failed;
-
-static void check(const char *what, int right)
-{
-    if (right) {
-        passed++;
-    } else {
-        failed++;
-        printf("FAILED %s\n", what);
-    }
-}
 
 /* Each refusal has words of its own, and no other number has; 16 is none. */
 static void words(void)
@@ -138,6 +127,5 @@ int main(void)
     parts_of_log();
     names();
     names_of_log();
-    printf("%u passed, %u failed\n", passed, failed);
-    return failed > 0;
+    return checked();
 }

@@ -1,7 +1,7 @@
 // What the calls of both modules share: their answers, the refusals that go by the call's own numbers, the count over pairs of bytes.
 // Proved: each function gives the definition of ports that its contract cites, whatever the module.
 ghost use mathlib.Core.Path.{_≡_};
-ghost use mathlib.Core.Bool.{_||_};
+ghost use mathlib.Core.Bool.{not, _||_};
 ghost use mathlib.Core.List.{[], _∷_, map};
 ghost use Prim.Native.Nat.{_<_, _≤_, _+_, _*_};
 ghost use lib.Bits.{bitAnd, bitXor};
@@ -77,6 +77,19 @@ pub fn write_refusal(reach: u64, address: u64, n: usize) -> u8
         return 5;
     }
     0
+}
+
+// The refusals 3 and 8 of a sample, or 0: by whether each record is sound, and whether the sample has its length.
+pub fn sample_refusal(first: bool, second: bool, right: bool) -> u8
+    ensures { λ r. ⌜ r ≡ firstOf ((3, not first || not second) ∷ (8, not right) ∷ []) ⌝ }
+{
+    if !first | !second {
+        return 3;
+    }
+    if right {
+        return 0;
+    }
+    8
 }
 
 // ---- the count

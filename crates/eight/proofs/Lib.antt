@@ -1,4 +1,4 @@
-pub mod Bits
+pub mod Clean
 pub mod Sound
 pub mod Lawful
 pub mod Demand1

@@ -16,11 +16,12 @@ use Rattle.laws.specs.Bits.{has}
 use Rattle.laws.specs.Lists.{at}
 use Rattle.laws.proofs.Tests.{case, not-both, beq-same, if-elim, and-left, covers-true}
 use Rattle.laws.proofs.Bits.{bit-lacks, bit-beyond}
+use Rattle.laws.proofs.Apart.{apart-by, apart-at, apart-or, apart-and, apart-without}
 use Rattle.laws.proofs.Finite.{always, always-at}
 use Rattle.ports.specs.Ports.{Places}
 use Rattle.eight.specs.Tables.{flags, masks, flagBits, maskBits, maskOf, pendingOf, recordSize, recordBits}
 use Rattle.eight.specs.Module.{conditions, onset, raised, cleared, written, sound}
-use Rattle.eight.proofs.Bits.{none-by, none-at, none-or, none-and, none-without, clean-by, clean-at}
+use Rattle.eight.proofs.Clean.{clean-by, clean-at}
 
 -- ---- soundness, byte by byte
 
@@ -49,10 +50,10 @@ pub sound-exact : (o : Places) → (sound o ≡ true) ↔ ((k j : ℕ) → k < r
 sound-exact o = (to, of)
   where
     to : sound o ≡ true → (k j : ℕ) → k < recordSize → j < 8 → has j (at recordBits k) ≡ false → has j (o k) ≡ false
-    to e k j h l t = none-at j (o k) (255 - at recordBits k) (sound-at o e k h) (not-false (has j (255 - at recordBits k)) (sym (split-at k j h l) ∙ t))
+    to e k j h l t = apart-at j (o k) (255 - at recordBits k) (sound-at o e k h) (not-false (has j (255 - at recordBits k)) (sym (split-at k j h l) ∙ t))
 
     of : ((k j : ℕ) → k < recordSize → j < 8 → has j (at recordBits k) ≡ false → has j (o k) ≡ false) → sound o ≡ true
-    of f = sound-by o (λ k h. let c = 255 - at recordBits k in none-by (o k) c (λ j t. case (ltb j 8)
+    of f = sound-by o (λ k h. let c = 255 - at recordBits k in apart-by (o k) c (λ j t. case (ltb j 8)
         (λ u. let l = ltb-true j 8 u in f k j h l (split-at k j h l ∙ rw t))
         (λ u. not-both (has j c) t (bit-lacks j c (bit-beyond 8 j c (omega arith) (ltb-false j 8 u))))))
 
@@ -66,7 +67,7 @@ cut : (b : ℕ) (bs : List ℕ) → always (inTable b bs) 14 ≡ true → (k n :
 unfolding inTable
 cut b bs e k n l u =
     let q : b + (k - b) ≡ k = omega arith in
-    none-and (255 - at recordBits k) n (at bs (k - b))
+    apart-and (255 - at recordBits k) n (at bs (k - b))
     (eqb-true (bitAnd (at bs (k - b)) (255 - at recordBits k)) 0 (rw q at (always-at (inTable b bs) 14 e (k - b) (omega arith))))
 
 as-flag : (k n : ℕ) → k < flags .many → Within k (bitAnd n (at flagBits k))
@@ -87,9 +88,9 @@ sound-raised f x o e = sound-by (raised f x o) (λ k h.
     let c = 255 - at recordBits k in
     let i = k - pendingOf 0 in
     if-elim (Within k) (ltb k (flags .many))
-    (λ t. none-or c (o k) (conditions x k) (sound-at o e k h) (as-flag k (at x k) (ltb-true k (flags .many) t)))
+    (λ t. apart-or c (o k) (conditions x k) (sound-at o e k h) (as-flag k (at x k) (ltb-true k (flags .many) t)))
     (λ t. if-elim (Within k) (covers (pendingOf 0) (flags .many) k)
-    (λ u. none-or c (o k) (onset f x i) (sound-at o e k h) (none-without c (conditions x i) (f i) (as-pending k (at x i) u)))
+    (λ u. apart-or c (o k) (onset f x i) (sound-at o e k h) (apart-without c (conditions x i) (f i) (as-pending k (at x i) u)))
     (λ u. sound-at o e k h)))
 
 pub sound-cleared : (a n : ℕ) (o : Places) → sound o ≡ true → sound (cleared a n o) ≡ true

@@ -23,13 +23,7 @@ fn refusal_of(state: &[u8], x: &[u8]) -> u8
     }
     let first = super::is_sound(state, super::record_of(1));
     let second = super::is_sound(state, super::record_of(2));
-    if !first | !second {
-        return 3;
-    }
-    if x.len() != super::MANY {
-        return 8;
-    }
-    0
+    both::sample_refusal(first, second, x.len() == super::MANY)
 }
 
 // Fourteen bytes behind two zeros: so sixteen places are joined at once, and the two before a run stay as they are.

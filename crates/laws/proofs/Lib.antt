@@ -2,6 +2,7 @@ pub mod Tests
 pub mod Rows
 pub mod Finite
 pub mod Bits
+pub mod Apart
 pub mod Lists
 pub mod Parts
 pub mod Zeros

@@ -98,6 +98,14 @@ covers-one a i = case (eqb i a)
     (λ t. let e = eqb-true i a t in rw t (covers-in a 1 i (omega arith) (omega arith)))
     (λ t. let d = eqb-false i a t in rw t (covers-none a 1 i (λ l u. d (omega arith))))
 
+-- one number more is covered
+pub covers-more : (a k i : ℕ) → covers a (k + 1) i ≡ (if eqb i (a + k) then true else covers a k i)
+covers-more a k i = case (eqb i (a + k))
+    (λ t. let z = eqb-true i (a + k) t in rw t (covers-in a (k + 1) i (omega arith) (omega arith)))
+    (λ t. let d = eqb-false i (a + k) t in rw t (same-test (covers a (k + 1) i) (covers a k i)
+    (λ u. let r = covers-true a (k + 1) i u in covers-in a k i (r .0) (omega arith))
+    (λ u. let r = covers-true a k i u in covers-in a (k + 1) i (r .0) (omega arith))))
+
 -- a run by its first and its last
 pub covers-to : (a b i : ℕ) → a ≤ b → covers a (suc b - a) i ≡ (leb a i && leb i b)
 covers-to a b i h = let e : a + (suc b - a) ≡ suc b = omega arith in rw e (case (leb i b)

@@ -24,13 +24,7 @@ fn refusal_of(state: &[u8], x: &[u8]) -> u8
     }
     let first = record::is_sound(state, address::record_of(1));
     let second = record::is_sound(state, address::record_of(2));
-    if !first | !second {
-        return 3;
-    }
-    if x.len() != alarms::SAMPLE_LEN {
-        return 8;
-    }
-    0
+    both::sample_refusal(first, second, x.len() == alarms::SAMPLE_LEN)
 }
 
 // Stores in a register the sample's bytes from `from` on.

@@ -1,9 +1,10 @@
 -- `eight_module::port_refusal` meets its contract.
 -- Assumes nothing.
-use mathlib.Core.Path.{sym, _∙_}
-use borrow.Author.Tests.{eq-eqb, ne-eqb}
+use mathlib.Core.Path.{refl, sym, _∙_}
+use borrow.Author.Tests.{ne-eqb}
 use borrow.Author.Needs.{needs}
-use Rattle.ports.specs.Bytes.{stateOf}
+use Rattle.ports.proofs.Taken.{port-refusal}
+use Rattle.eight.specs.Module.{eight}
 use Rattle.eight_module.proofs.port_refusal.Statement.{statement}
 use Rattle.eight_module.proofs.port_refusal.Tie as tie
 
@@ -14,7 +15,7 @@ is-nobody-requires : tie.Need-is-nobody-requires
 is-nobody-requires c κs = search needs
 
 returns-2 : tie.Need-returns-2
-returns-2 c = let n = c .before in rw (eq-eqb _ _ (n .before .if1 .left), sym (n .is-nobody .ensures) ∙ c .if2 .taken)
+returns-2 c = let n = c .before in rw (port-refusal eight _ _ (n .before .if1 .left) refl refl, sym (n .is-nobody .ensures) ∙ c .if2 .taken)
 
 record-of-requires : tie.Need-record-of-requires
 record-of-requires c κs = search needs
@@ -23,18 +24,16 @@ is-sound-requires : tie.Need-is-sound-requires
 is-sound-requires c κs = search needs
 
 returns-3 : tie.Need-returns-3
-unfolding stateOf
 returns-3 c =
     let x = c .before .before in
     let n = x .before .before in
-    rw (eq-eqb _ _ (n .before .if1 .left), sym (n .is-nobody .ensures) ∙ x .before .if2 .left, ← x .record-of .ensures .0, sym (c .before .is-sound .ensures) ∙ c .if3 .taken)
+    rw (port-refusal eight _ _ (n .before .if1 .left) (x .record-of .ensures .0) (c .before .is-sound .ensures), sym (n .is-nobody .ensures) ∙ x .before .if2 .left, c .if3 .taken)
 
 returns-4 : tie.Need-returns-4
-unfolding stateOf
 returns-4 c =
     let x = c .before .before in
     let n = x .before .before in
-    rw (eq-eqb _ _ (n .before .if1 .left), sym (n .is-nobody .ensures) ∙ x .before .if2 .left, ← x .record-of .ensures .0, sym (c .before .is-sound .ensures) ∙ c .if3 .left)
+    rw (port-refusal eight _ _ (n .before .if1 .left) (x .record-of .ensures .0) (c .before .is-sound .ensures), sym (n .is-nobody .ensures) ∙ x .before .if2 .left, c .if3 .left)
 
 pub port-refusal-spec : {M : Type 1} → statement M
 port-refusal-spec =

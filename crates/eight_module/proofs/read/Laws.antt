@@ -14,7 +14,7 @@ use Rattle.ports.specs.Ports.{caller, read}
 use Rattle.ports.specs.Modules.{base, stateSize}
 use Rattle.ports.specs.Bytes.{memoryOf, recordOf, refusalOf}
 use Rattle.ports.specs.Contracts.{ReadDone}
-use Rattle.ports.proofs.Taken as ports
+use Rattle.ports.proofs.Left as left
 use Rattle.moves.specs.Copied.{copied}
 use Rattle.both.proofs.Laws.{own-byte}
 use Rattle.eight.specs.Tables.{flags, masks, maskOf, pendingOf, recordSize}
@@ -55,4 +55,4 @@ pub read-done : (s : List ℕ) (n a k : ℕ) (out : List ℕ) → refusalOf eigh
     → t ≡ patch (base eight (caller n)) recordSize (cleared a k (recordOf eight s (base eight (caller n)))) s → c ≡ eight .count (recordOf eight t b)
     → shown ≡ patch 0 k (λ j. seen (recordOf eight s b) (a + j)) out → ReadDone eight s n a k out 0 c t shown
 read-done s n a k out taken b c t shown is e =
-    ports.read-done eight lawful s n a k out taken b c recordSize t shown is (omega arith) (λ i l h. absurd (omega arith)) (rw (← is) at e)
+    left.read-done eight lawful s n a k out taken b c recordSize t shown is (omega arith) (λ i l h. absurd (omega arith)) (rw (← is) at e)

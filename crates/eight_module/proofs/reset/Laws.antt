@@ -18,7 +18,7 @@ use Rattle.ports.specs.Bytes.{stateOf, bytesOf, rowsOf, refusalOf}
 use Rattle.ports.specs.Contracts.{Reported}
 use Rattle.ports.proofs.Bytes.{base-fits, bytes-by-part}
 use Rattle.ports.proofs.Contracts.{reported-refused}
-use Rattle.ports.proofs.Taken
+use Rattle.ports.proofs.Left
 use Rattle.eight.specs.Module.{eight}
 use Rattle.eight.proofs.Lawful.{lawful}
 use Rattle.eight.proofs.Demand1.{reset-accepted}
@@ -31,7 +31,7 @@ reset-refused s d = reported-refused eight s (reset tt) 1 (sym one) (λ z. absur
     one = unfold refusalOf rowsOf in rw (ne-eqb (length s) (stateSize eight) d)
 
 pub reset-done : (s t : List ℕ) → length s ≡ stateSize eight → t ≡ patch 0 (stateSize eight) (λ j. 0) s → Reported eight s (reset tt) 0 0 0 t
-reset-done s t e d = Taken.reset-done eight lawful s tt (reset-accepted s .1 e) zero t left
+reset-done s t e d = Left.reset-done eight lawful s tt (reset-accepted s .1 e) zero t left
   where
     zero : eight .count (λ k. 0) ≡ 0
     zero = unfold countOf sum in refl

@@ -3,11 +3,11 @@
 -- Assumes nothing.
 use mathlib.Core.Path.{_≡_, refl, sym, ap, _∙_}
 use mathlib.Core.List.{List}
-use Prim.Native.Nat.{ℕ, zero, suc, _+_, _-_, _≤_, _<_}
+use Prim.Native.Nat.{ℕ, _+_, _-_, _≤_, _<_}
 use native.Mathlib.Omega.{arith}
 use lib.Bits.{bitOr, bitAnd, bitXor, or-zero-r}
 use lib.Dec.{eqb, ltb}
-use lib.ListN.{length, set, replicate}
+use lib.ListN.{length, set, replicate, getD-replicate}
 use borrow.Author.Tests.{eqb-true, eqb-false, ltb-true, ltb-false, lt-ltb, le-ltb}
 use Rattle.laws.specs.Tests.{if_then_else_, covers}
 use Rattle.laws.specs.Lists.{at, table, patch}
@@ -30,11 +30,6 @@ use Rattle.eight_module.proofs.Laws.{two-runs, second-run}
 
 -- ---- fourteen bytes behind two zeros
 
-none-at : (n i : ℕ) → at (replicate n 0) i ≡ 0
-none-at zero i = refl
-none-at (suc n) zero = refl
-none-at (suc n) (suc i) = none-at n i
-
 -- sixteen zeros, of which k behind the first two are replaced
 abbrev pub filled : ℕ → (ℕ → ℕ) → List ℕ
 filled k f = patch 2 k f (replicate 16 0)
@@ -47,7 +42,7 @@ filled-more f k h = let z : 2 + k ≡ k + 2 = omega arith in rw z at (patch-more
 
 table-filled : (f : ℕ → ℕ) (t : List ℕ) → t ≡ filled 14 f → t ≡ table 16 (led f)
 table-filled f t d = is-table t 16 (led f) (ap length d ∙ patch-length 2 14 f (replicate 16 0)) (λ i l. rw d (case (ltb i 2)
-    (λ u. rw u (patch-below 2 14 f (replicate 16 0) i l (ltb-true i 2 u) ∙ none-at 16 i))
+    (λ u. rw u (patch-below 2 14 f (replicate 16 0) i l (ltb-true i 2 u) ∙ getD-replicate 16 i 0 0 l))
     (λ u. let k = ltb-false i 2 u in let z : 2 + (i - 2) ≡ i = omega arith in
     rw u (rw z at (patch-in 2 14 f (replicate 16 0) (i - 2) (omega arith) (rw z l))))))
 

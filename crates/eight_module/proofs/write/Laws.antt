@@ -11,19 +11,11 @@ use lib.ListN.{length, set, length-set}
 use borrow.Author.Tests.{eqb-true, eqb-false, eq-eqb, ne-eqb, lt-ltb}
 use Rattle.laws.specs.Tests.{if_then_else_, covers, within}
 use Rattle.laws.specs.Lists.{at, patch}
-use Rattle.laws.proofs.Tests.{case, not-both, same-test, covers-in, covers-true, covers-none}
+use Rattle.laws.proofs.Tests.{case, not-both, covers-in, covers-true, covers-none, covers-more}
 use Rattle.laws.proofs.Lists.{at-set, patch-length, patch-in, patch-else, patch-same, is-patch}
 use Rattle.ports.specs.Bytes.{recordOf}
 use Rattle.eight.specs.Tables.{masks, maskBits, maskOf, recordSize}
 use Rattle.eight.specs.Module.{written, eight}
-
--- one number more is covered
-covers-more : (a k i : ℕ) → covers a (k + 1) i ≡ (if eqb i (a + k) then true else covers a k i)
-covers-more a k i = case (eqb i (a + k))
-    (λ t. let z = eqb-true i (a + k) t in rw t (covers-in a (k + 1) i (omega arith) (omega arith)))
-    (λ t. let d = eqb-false i (a + k) t in rw t (same-test (covers a (k + 1) i) (covers a k i)
-    (λ u. let r = covers-true a (k + 1) i u in covers-in a k i (r .0) (omega arith))
-    (λ u. let r = covers-true a k i u in covers-in a (k + 1) i (r .0) (omega arith))))
 
 -- of the record at b in s, with the first k of the bytes vs written at a
 module _ (s vs : List ℕ) (b a : ℕ) where

@@ -8,7 +8,8 @@ use native.Mathlib.Omega.{arith}
 use lib.ListN.{length}
 use borrow.Author.Tests.{le-ltb}
 use Rattle.laws.specs.Lists.{patch}
-use Rattle.ports.proofs.Taken as ports
+use Rattle.ports.proofs.Taken as relied
+use Rattle.ports.proofs.Left as left
 use Rattle.model.specs.Ports.{caller, read}
 use Rattle.model.specs.Map.{stateSize, base, pageAt, flags}
 use Rattle.model.specs.Reading.{seen, cleared}
@@ -29,7 +30,7 @@ pub record Taken (s : List ℕ) (b a k room : ℕ) : Type 0 where
 
 pub read-taken : (s : List ℕ) (n a k : ℕ) (out : List ℕ) (b : ℕ) → refusalOf s (read n a k out) ≡ 0 → b ≡ base (caller n) → Taken s b a k (length out)
 read-taken s n a k out b e is =
-    let r = ports.read-relies document01 s n a k out b e is in
+    let r = relied.read-relies document01 s n a k out b e is in
     record { long = r .long; page = sound-page (memoryOf s) (recordOf s b) (r .whole); some = r .some; inside = r .inside; fits = r .fits }
 
 -- an accepted read, with the caller's record at b
@@ -38,4 +39,4 @@ pub read-done : (s : List ℕ) (n a k : ℕ) (out : List ℕ) → refusalOf s (r
     → shown ≡ patch 0 k (λ j. seen (memoryOf s) (recordOf s b) (a + j)) out → ReadDone s n a k out 0 c t shown
 unfolding cleared
 read-done s n a k out taken b c t shown is =
-    ports.read-done document01 lawful s n a k out taken b c (flags .many) t shown is (omega arith) (λ i l h. rw (le-ltb i (flags .many) l))
+    left.read-done document01 lawful s n a k out taken b c (flags .many) t shown is (omega arith) (λ i l h. rw (le-ltb i (flags .many) l))

@@ -16,7 +16,7 @@ use Rattle.laws.proofs.Fronts.{front-in, front-over, front-set}
 use Rattle.laws.proofs.Runs.{overlaid, overlaid-front}
 use Rattle.ports.specs.Effects
 use Rattle.ports.specs.Interrupt
-use Rattle.ports.proofs.Taken
+use Rattle.ports.proofs.Left
 use Rattle.model.specs.Ports.{Port, reset}
 use Rattle.model.specs.Map.{memorySize, recordSize, stateSize, base, statusAt}
 use Rattle.model.specs.Reset.{emptied, inPage02, fresh}
@@ -93,4 +93,4 @@ module _ (s img : List ℕ) (taken : refusalOf s (reset img) ≡ 0) (t u : List 
       (λ i h. memory-is i h ∙ sym (ap (fresh img i) (memory-at s i h))) record-is
 
   pub reset-done : Reported s (reset img) 0 0 0 t
-  reset-done = Taken.reset-done document01 lawful s img taken (unfold Interrupt.countOf sum in refl) t bytes-are
+  reset-done = Left.reset-done document01 lawful s img taken (unfold Interrupt.countOf sum in refl) t bytes-are

@@ -1,6 +1,6 @@
 -- `eight_module::sample::refusal_of` meets its contract.
 -- Assumes nothing.
-use borrow.Author.Tests.{eq-eqb, ne-eqb}
+use borrow.Author.Tests.{ne-eqb}
 use borrow.Author.Needs.{needs}
 use Rattle.ports.specs.Bytes.{rowsOf, refusalOf}
 use Rattle.ports.proofs.Taken.{sample-refusal}
@@ -24,26 +24,15 @@ record-of-requires-2 c κs = search needs
 is-sound-requires-2 : tie.Need-is-sound-requires-2
 is-sound-requires-2 c κs = search needs
 
+sample-refusal-requires : tie.Need-sample-refusal-requires
+sample-refusal-requires c κs = search needs
+
 returns-2 : tie.Need-returns-2
 returns-2 c =
     let b = c .before in
     let a = b .before .before in
     let e = a .before .before in
-    rw (sample-refusal eight _ _ (e .if1 .left) (a .before .record-of .ensures .0) (b .before .record-of2 .ensures .0) (a .is-sound .ensures) (b .is-sound2 .ensures), c .if2 .taken)
-
-returns-3 : tie.Need-returns-3
-returns-3 c =
-    let b = c .before .before in
-    let a = b .before .before in
-    let e = a .before .before in
-    rw (sample-refusal eight _ _ (e .if1 .left) (a .before .record-of .ensures .0) (b .before .record-of2 .ensures .0) (a .is-sound .ensures) (b .is-sound2 .ensures), c .before .if2 .left, ne-eqb _ _ (c .if3 .taken))
-
-returns-4 : tie.Need-returns-4
-returns-4 c =
-    let b = c .before .before in
-    let a = b .before .before in
-    let e = a .before .before in
-    rw (sample-refusal eight _ _ (e .if1 .left) (a .before .record-of .ensures .0) (b .before .record-of2 .ensures .0) (a .is-sound .ensures) (b .is-sound2 .ensures), c .before .if2 .left, eq-eqb _ _ (c .if3 .left))
+    rw (sample-refusal eight _ _ (e .if1 .left) (a .before .record-of .ensures .0) (b .before .record-of2 .ensures .0) (a .is-sound .ensures) (b .is-sound2 .ensures)) (c .sample-refusal .ensures)
 
 pub refusal-of-spec : {M : Type 1} → statement M
 refusal-of-spec =
@@ -54,6 +43,5 @@ refusal-of-spec =
     is-sound-requires
     record-of-requires-2
     is-sound-requires-2
-    returns-2
-    returns-3
-    returns-4)
+    sample-refusal-requires
+    returns-2)

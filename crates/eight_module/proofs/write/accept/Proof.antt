@@ -5,7 +5,8 @@ use lib.ListN.{length}
 use denote.Ref.{now}
 use borrow.Author.Needs.{needs}
 use Rattle.ports.specs.Bytes.{stateOf}
-use Rattle.ports.proofs.Taken.{WriteRelies, write-relies, write-done}
+use Rattle.ports.proofs.Taken.{WriteRelies, write-relies}
+use Rattle.ports.proofs.Left.{write-done}
 use Rattle.eight.specs.Module.{written, eight}
 use Rattle.eight.proofs.Lawful.{lawful}
 use Rattle.eight_module.proofs.write.accept.Statement.{statement}
