@@ -14,27 +14,11 @@ static uint32_t read_of(struct state *copy, uint64_t port, uint64_t address, uin
     return copy->kind->read(copy->bytes, copy->len, port, address, count, out, count);
 }
 
-/* Makes the flag at a place the only one of a port that is raised, and pending. */
-static void raise_alone(struct state *copy, uint64_t port, struct place at)
+/* Selects a page in a copy, also where the module does not offer it: its masks hold back all the same. */
+static void select_page(struct state *copy, uint64_t port, uint8_t page)
 {
-    const size_t runs[] = {copy->kind->flags_at, copy->kind->pending_at};
-
-    for (unsigned i = 0; i < 2; i++) {
-        uint8_t *run = copy->bytes + runs[i] + behind(copy, port);
-        memset(run, 0, copy->kind->flag_bytes);
-        run[at.byte - FLAGS_AT] = (uint8_t)(1u << at.bit);
-    }
-}
-
-/* Whether a flag that is raised alone is held back. A bit that is no flag makes the record unsound, and the read is refused. */
-static bool held_back(const struct state *state, uint64_t port, struct place at)
-{
-    struct state copy = *state;
-    uint8_t first;
-
-    raise_alone(&copy, port, at);
-    uint32_t answer = read_of(&copy, port, 0, 1, &first);
-    return zikhrodan_refusal_of(answer) == ZIKHRODAN_ACCEPTED && zikhrodan_count(answer) == 0;
+    copy->bytes[STATUS_AT] &= (uint8_t)~FLAT;
+    copy->kind->write(copy->bytes, copy->len, port, PAGE_AT, &page, 1);
 }
 
 struct port_view ask_port(const struct state *state, uint64_t port)
@@ -43,7 +27,7 @@ struct port_view ask_port(const struct state *state, uint64_t port)
     struct state copy = *state;
     uint8_t page = 0;
 
-    uint32_t answer = read_of(&copy, port, 127, 1, &page);
+    uint32_t answer = read_of(&copy, port, PAGE_AT, 1, &page);
     view.refusal = zikhrodan_refusal_of(answer);
     if (view.refusal != ZIKHRODAN_ACCEPTED)
         return view;
@@ -56,20 +40,27 @@ struct port_view ask_port(const struct state *state, uint64_t port)
 
 void ask_masked(const struct state *state, uint64_t port, uint8_t masked[MOST_FLAG_BYTES])
 {
+    const struct kind *kind = state->kind;
+    struct state copy = *state;
+
     memset(masked, 0, MOST_FLAG_BYTES);
     if (ask_port(state, port).refusal != ZIKHRODAN_ACCEPTED)
         return;
-    for (unsigned i = 0; i < 8 * state->kind->flag_bytes; i++)
-        if (held_back(state, port, (struct place){FLAGS_AT + i / 8, i % 8}))
-            masked[i / 8] |= (uint8_t)(1u << i % 8);
+    for (const struct masks *run = kind->masks; run->count > 0; run++) {
+        if (run->page)
+            select_page(&copy, port, run->page);
+        read_of(&copy, port, run->address, run->count, masked + (run->flag - FLAGS_AT));
+    }
 }
 
 bool ask_mask(const struct kind *kind, uint64_t mask_address, struct place at)
 {
     struct state fresh = {.kind = kind, .len = kind->state_len};
+    uint8_t mask = 0xff;
 
-    kind->write(fresh.bytes, fresh.len, ZIKHRODAN_OPERATOR, mask_address, &(uint8_t){0xff}, 1);
-    return held_back(&fresh, ZIKHRODAN_OPERATOR, at);
+    kind->write(fresh.bytes, fresh.len, ZIKHRODAN_OPERATOR, mask_address, &mask, 1);
+    read_of(&fresh, ZIKHRODAN_OPERATOR, mask_address, 1, &mask);
+    return mask >> at.bit & 1;
 }
 
 /* Where the fourteen numbers of a sample are stored, two bytes each. */

@@ -1,8 +1,8 @@
 /* ask.h: what the library says of a state. Each question is asked on a copy, so that the state stays as it is.
  *
- * The library alone decides: which flags a mask holds back is asked by raising each alone in a copy and looking at the count,
- * what is outside its limits by feeding the stored numbers to a copy, whether a check code is right by the identity of a page
- * that has the other one right. All that is known here is where a byte lies; of an eight-channel module zikhrodan.h names it. */
+ * The library alone decides: a port's flags, masks and page are what it reads, what is outside its limits is found by feeding the
+ * stored numbers to a copy, whether a check code is right by the identity of a page that has the other one right. All that is
+ * known here is where a byte lies; of an eight-channel module zikhrodan.h names it. */
 #ifndef ASK_H
 #define ASK_H
 
@@ -19,10 +19,11 @@ struct port_view {
 };
 struct port_view ask_port(const struct state *state, uint64_t port);
 
-/* The flags that a port's masks hold back, if they are raised or were to be. All 0 where the port is refused. */
+/* A port's masks, each at its flag's place: the flags that they hold back, if they are raised or were to be. All 0 where the port
+ * is refused. */
 void ask_masked(const struct state *state, uint64_t port, uint8_t masked[MOST_FLAG_BYTES]);
 
-/* Whether a mask byte can hold back the flag at a place: asked of a module whose mask byte there is written full. */
+/* Whether a mask byte has a bit for the flag at a place: one that a write sets. */
 bool ask_mask(const struct kind *kind, uint64_t mask_address, struct place at);
 
 /* The limits that the stored numbers are outside of, as bits of the flag bytes; for a monitor that has measured nothing they say
@@ -36,9 +37,9 @@ struct codes_view {
 struct codes_view ask_codes(const uint8_t page[ZIKHRODAN_PAGE_LEN]);
 
 /* A bit of flag bytes. */
-static inline bool bit_of(const uint8_t *flags, unsigned byte, unsigned bit)
+static inline bool bit_at(const uint8_t *flags, struct place at)
 {
-    return flags[byte - FLAGS_AT] >> bit & 1;
+    return flags[at.byte - FLAGS_AT] >> at.bit & 1;
 }
 
 #endif

@@ -115,9 +115,10 @@ static int demo(int given, char **words)
     bool eight = false;
     const struct option options[] = {{.name = "--keep", .value = &folder}, {.name = "--eight", .flag = &eight}, {0}};
 
-    if (!words_in(&given, words, options, 0, 0))
+    if (!words_in(&given, words, options, DEMO.usage, 0, 0))
         return USAGE_OR_FILE;
-    int status = eight ? demo_eight() : demo_four();
+    int status = folder ? demo_keeps(folder, eight) : DONE;
+    status = status ? status : eight ? demo_eight() : demo_four();
     return status == DONE && folder ? demo_keep(folder, eight) : status;
 }
 

@@ -26,9 +26,9 @@ static unsigned flags_in(const uint8_t flags[ZIKHRODAN_DD_FLAG_BYTES], char *nam
     unsigned count = 0;
 
     for (unsigned i = 0; i < 8 * EIGHT.flag_bytes; i++) {
-        unsigned byte = FLAGS_AT + i / 8, bit = 7 - i % 8;
-        if (bit_of(flags, byte, bit) && count++ == 0)
-            flag_name(eight_flag_at(byte, bit), name, NAME_ROOM);
+        struct place at = place_shown(&EIGHT, i);
+        if (bit_at(flags, at) && count++ == 0)
+            flag_name(eight_flag_at(at.byte, at.bit), name, NAME_ROOM);
     }
     return count;
 }

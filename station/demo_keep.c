@@ -6,6 +6,7 @@
 #include "logcalls.h"
 #include "say.h"
 #include "signals.h"
+#include "why.h"
 
 #include <errno.h>
 #include <limits.h>
@@ -28,7 +29,7 @@ static int make_log(const char *name)
     status = made ? log_begin(&log) : status;
     for (unsigned minute = 0; minute < DAY_MINUTES && status == DONE; minute++) {
         uint32_t refusal = log_add(&log, rows[minute], sizeof rows[minute]);
-        status = refusal != ZIKHRODAN_ACCEPTED ? refused(refusal, "%s", name) : DONE;
+        status = refusal != ZIKHRODAN_ACCEPTED ? refused(refusal, why_change(&log, refusal), "%s", name) : DONE;
     }
     status = status == DONE ? log_commit(&log) : status;
     log_close(&log);
@@ -56,6 +57,11 @@ static const struct kept {
 };
 enum { KEPT = sizeof FOUR_KEPT.files / sizeof FOUR_KEPT.files[0] };
 
+static const struct kept *kept_of(bool eight)
+{
+    return eight ? &EIGHT_KEPT : &FOUR_KEPT;
+}
+
 static void make_bytes(void)
 {
     zikhrodan_reset(state, sizeof state, FACTORY_IMAGE, sizeof FACTORY_IMAGE);
@@ -80,17 +86,29 @@ static int keep_file(const struct kept *kept, const char *folder, unsigned file,
     return kept->files[file].bytes ? replace(name, name, kept->files[file].bytes, kept->files[file].len, NULL) : make_log(name);
 }
 
-int demo_keep(const char *folder, bool eight)
+/* Each file, made or looked for. */
+static int keep_files(const char *folder, bool eight, bool look)
 {
-    const struct kept *kept = eight ? &EIGHT_KEPT : &FOUR_KEPT;
     int status = DONE;
 
+    for (unsigned i = 0; i < KEPT && status == DONE; i++)
+        status = keep_file(kept_of(eight), folder, i, look);
+    return status;
+}
+
+int demo_keeps(const char *folder, bool eight)
+{
+    return keep_files(folder, eight, true);
+}
+
+int demo_keep(const char *folder, bool eight)
+{
     if (mkdir(folder, 0777) != 0 && errno != EEXIST)
         return fail_errno(folder);
     make_bytes();
-    for (unsigned i = 0; i < 2 * KEPT && status == DONE; i++)
-        status = keep_file(kept, folder, i % KEPT, i < KEPT);
+    int status = demo_keeps(folder, eight);
+    status = status ? status : keep_files(folder, eight, false);
     if (status == DONE)
-        printf("\nKept in %s: %s\n", folder, kept->words);
+        printf("\nKept in %s: %s\n", folder, kept_of(eight)->words);
     return status;
 }

@@ -9,4 +9,7 @@
  * exit status, with what was done or went wrong said. */
 int demo_keep(const char *folder, bool eight);
 
+/* Whether it can: an exit status with the error said, where one of the files is there. */
+int demo_keeps(const char *folder, bool eight);
+
 #endif

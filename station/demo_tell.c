@@ -30,10 +30,10 @@ int tell_read(const struct kind *kind, const struct told_ports *ports)
 
     printf("\nWhat each of them read:%-30soperator      recorder\n", "");
     for (unsigned i = 0; i < 8 * kind->flag_bytes; i++) {
-        unsigned byte = FLAGS_AT + i / 8, bit = 7 - i % 8;
-        bool mine = bit_of(ports->read[0], byte, bit), its = bit_of(ports->read[1], byte, bit);
+        struct place at = place_shown(kind, i);
+        bool mine = bit_at(ports->read[0], at), its = bit_at(ports->read[1], at);
         if (mine || its)
-            printf("  %-51s%-14s%s\n", flag_name(kind->flag_at(byte, bit), name, sizeof name), mine ? "raised" : "-",
+            printf("  %-51s%-14s%s\n", flag_name(kind->flag_at(at.byte, at.bit), name, sizeof name), mine ? "raised" : "-",
                    its ? "raised" : "-");
     }
     if (memcmp(ports->read[0], ports->read[1], sizeof ports->read[0]) != 0)

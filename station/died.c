@@ -2,6 +2,7 @@
 #include "command.h"
 #include "died.h"
 #include "logcalls.h"
+#include "why.h"
 #include "words.h"
 
 #include <inttypes.h>
@@ -13,7 +14,7 @@ static int ask(struct died_view *view, uint64_t bit)
     const struct logfile *log = &view->log;
     uint64_t answer = log_first(log, bit);
     if (zikhrodan_log_refusal(answer) != ZIKHRODAN_ACCEPTED)
-        return refused(zikhrodan_log_refusal(answer), "%s: line %" PRIu64, log->name, bit);
+        return refused(zikhrodan_log_refusal(answer), why_line(zikhrodan_log_refusal(answer)), "%s: line %" PRIu64, log->name, bit);
 
     struct death *death = &view->deaths[view->lines++];
     *death = (struct death){.bit = (unsigned)bit, .died = zikhrodan_log_value(answer) > 0};
@@ -46,7 +47,7 @@ static int died(int given, char **words)
                                      {NULL, NULL, NULL}};
     uint64_t bit = 0;
 
-    if (!words_in(&given, words, options, 1, 2) || (given > 1 && !line_in(words[1], &bit)) ||
+    if (!words_in(&given, words, options, DIED.usage, 1, 2) || (given > 1 && !line_in(words[1], &bit)) ||
         !moments_in(period, start, &view.moments))
         return USAGE_OR_FILE;
     int status = ask_all(&view, words[0], given == 1, bit);

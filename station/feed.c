@@ -4,6 +4,7 @@
 #include "logcalls.h"
 #include "say.h"
 #include "signals.h"
+#include "why.h"
 
 #include <inttypes.h>
 #include <stdio.h>
@@ -54,9 +55,10 @@ static int feed_row(struct feed *feed, const uint8_t *row, size_t len)
     if (refusal != ZIKHRODAN_ACCEPTED)
         feed->state = before;
     if (refusal == ZIKHRODAN_SAMPLE_SIZE)
-        return refused_by(feed->kind, refusal, "%s: row %" PRIu64, feed->rows.name, feed->rows.row);
+        return refused(refusal, feed->kind->words(refusal), "%s: row %" PRIu64, feed->rows.name, feed->rows.row);
     if (refusal != ZIKHRODAN_ACCEPTED)
-        return refused_by(feed->kind, refusal, "%s: at row %" PRIu64 " of %s", whose, feed->rows.row, feed->rows.name);
+        return refused(refusal, whose == feed->log.name ? why_change(&feed->log, refusal) : why_sample(&feed->state, refusal),
+                       "%s: at row %" PRIu64 " of %s", whose, feed->rows.row, feed->rows.name);
     feed->taken++;
     progress(feed->taken);
     return feed->tell ? feed->tell(feed, &before) : DONE;
@@ -127,7 +129,7 @@ static int look(struct feed *feed)
     for (unsigned i = 0; i < 2 && feed->name && status == DONE; i++) {
         struct port_view view = ask_port(&feed->state, ZIKHRODAN_OPERATOR + i);
         if (view.refusal != ZIKHRODAN_ACCEPTED)
-            status = refused_by(feed->kind, view.refusal, "%s", feed->name);
+            status = refused(view.refusal, why_port(feed->kind, view.refusal, ZIKHRODAN_OPERATOR + i), "%s", feed->name);
         feed->counts[i] = view.count;
     }
     if (status == DONE && feed->log.name && feed->kind->sample_len != FOUR.sample_len)

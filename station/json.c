@@ -2,6 +2,7 @@
 #include "json.h"
 #include "decimals.h"
 #include "dump.h"
+#include "utf8.h"
 
 #include <inttypes.h>
 #include <stdio.h>
@@ -101,33 +102,38 @@ void json_whole(struct json *json, uint64_t number)
     printf("%" PRIu64, number);
 }
 
-static bool stands_for_itself(uint8_t byte, bool utf8)
+/* An ASCII character. */
+static void put_ascii(uint8_t byte)
 {
-    return byte != '"' && byte != '\\' && (printable(byte) || (utf8 && byte >= 0x80));
-}
-
-static void quoted(struct json *json, const uint8_t *bytes, size_t len, bool utf8)
-{
-    before(json);
-    putchar('"');
-    for (size_t at = 0; at < len; at++) {
-        size_t plain = 0;
-        while (at + plain < len && stands_for_itself(bytes[at + plain], utf8))
-            plain++;
-        fwrite(bytes + at, 1, plain, stdout);
-        at += plain;
-        if (at < len)
-            printf(bytes[at] == '"' || bytes[at] == '\\' ? "\\%c" : "\\u%04X", bytes[at]);
-    }
-    putchar('"');
+    if (byte == '"' || byte == '\\')
+        printf("\\%c", byte);
+    else if (printable(byte))
+        putchar(byte);
+    else
+        printf("\\u%04X", byte);
 }
 
 void json_bytes(struct json *json, const uint8_t *bytes, size_t len)
 {
-    quoted(json, bytes, len, false);
+    before(json);
+    putchar('"');
+    for (size_t at = 0; at < len; at++)
+        put_ascii(bytes[at]);
+    putchar('"');
 }
 
 void json_words(struct json *json, const char *words)
 {
-    quoted(json, (const uint8_t *)words, strlen(words), true);
+    before(json);
+    putchar('"');
+    for (const unsigned char *at = (const unsigned char *)words; *at;) {
+        uint32_t code;
+        unsigned len = utf8_at(at, &code);
+        if (len == 1)
+            put_ascii(*at);
+        else
+            printf("%.*s", len ? (int)len : (int)strlen(NO_CHARACTER), len ? (const char *)at : NO_CHARACTER);
+        at += len ? len : 1;
+    }
+    putchar('"');
 }

@@ -25,6 +25,6 @@ void json_bool(struct json *json, bool value);
 void json_number(struct json *json, double value); /* the shortest decimal, as print_number has it */
 void json_whole(struct json *json, uint64_t number);
 void json_bytes(struct json *json, const uint8_t *bytes, size_t len); /* as text; what isn't printable ASCII as \u00XX */
-void json_words(struct json *json, const char *words); /* text in UTF-8, as a file's name is */
+void json_words(struct json *json, const char *words); /* text in UTF-8; what is none, in a file's name, as U+FFFD */
 
 #endif

@@ -1,6 +1,9 @@
 /* kind.c: see kind.h. */
 #include "kind.h"
 
+static const struct masks FOUR_MASKS[] = {{0, 100, 5, FLAGS_AT}, {3, 242, 6, 9}, {0}};
+static const struct masks EIGHT_MASKS[] = {{0, ZIKHRODAN_DD_RX_LOS_MASK, ZIKHRODAN_DD_FLAG_BYTES, FLAGS_AT}, {0}};
+
 const struct kind FOUR = {
     .aside = "",
     .counted = "",
@@ -12,6 +15,8 @@ const struct kind FOUR = {
     .flags_at = ZIKHRODAN_IMAGE_LEN,
     .pending_at = ZIKHRODAN_IMAGE_LEN,
     .record_len = (ZIKHRODAN_STATE_LEN - ZIKHRODAN_IMAGE_LEN) / PORTS,
+    .masks = FOUR_MASKS,
+    .pages = true,
     .sample = zikhrodan_sample,
     .read = zikhrodan_read,
     .write = zikhrodan_write,
@@ -30,6 +35,7 @@ const struct kind EIGHT = {
     .flags_at = ZIKHRODAN_DD_OPERATOR_AT + ZIKHRODAN_DD_FLAGS_IN,
     .pending_at = ZIKHRODAN_DD_OPERATOR_AT + ZIKHRODAN_DD_PENDING_IN,
     .record_len = ZIKHRODAN_DD_RECORD_LEN,
+    .masks = EIGHT_MASKS,
     .sample = zikhrodan_dd_sample,
     .read = zikhrodan_dd_read,
     .write = zikhrodan_dd_write,
@@ -40,6 +46,13 @@ const struct kind EIGHT = {
 const struct kind *kind_of(size_t state_len)
 {
     return state_len == FOUR.state_len ? &FOUR : state_len == EIGHT.state_len ? &EIGHT : NULL;
+}
+
+struct place place_shown(const struct kind *kind, unsigned number)
+{
+    unsigned byte = FLAGS_AT + number / 8, bit = number % 8;
+
+    return (struct place){byte, kind->flag_at(byte, 0).channel == 1 ? bit : 7 - bit};
 }
 
 unsigned channels_of(const struct kind *kind, struct flag flag, struct place places[MOST_CHANNELS])

@@ -26,10 +26,4 @@ static inline bool line_of(const uint8_t *sample, unsigned bit)
     return sample[bit / 8] >> bit % 8 & 1;
 }
 
-/* The lines in the order in which flags are shown, each byte from bit 7 down: which one comes at a place, 0 to 23. */
-static inline unsigned line_shown(unsigned place)
-{
-    return place / 8 * 8 + 7 - place % 8;
-}
-
 #endif

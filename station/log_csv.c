@@ -28,10 +28,10 @@ static void row_line(const struct log_row *row)
             print_number(row->values[m]);
     }
     putchar(',');
-    for (unsigned place = 0; place < LINES; place++)
-        if (line_of(row->sample, line_shown(place))) {
+    for (unsigned bit = 0; bit < LINES; bit++)
+        if (line_of(row->sample, bit)) {
             fputs(between, stdout);
-            fputs(line_kept(line_shown(place)), stdout);
+            fputs(line_kept(bit), stdout);
             between = "; ";
         }
     fputs("\r\n", stdout);

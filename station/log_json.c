@@ -86,9 +86,9 @@ static void row_line(const struct log_row *row)
     json_words(&json, hex);
     json_key(&json, "status");
     json_begin(&json, '[');
-    for (unsigned place = 0; place < LINES; place++)
-        if (line_of(row->sample, line_shown(place)))
-            json_words(&json, line_kept(line_shown(place)));
+    for (unsigned bit = 0; bit < LINES; bit++)
+        if (line_of(row->sample, bit))
+            json_words(&json, line_kept(bit));
     json_end(&json);
     numbers(row);
     json_end(&json);

@@ -2,6 +2,7 @@
 #include "command.h"
 #include "log.h"
 #include "logcalls.h"
+#include "why.h"
 #include "words.h"
 
 #include <inttypes.h>
@@ -11,13 +12,13 @@ static int log_power_up_command(int given, char **words)
 {
     static const struct option options[] = {{0}};
 
-    if (!words_in(&given, words, options, 1, 1))
+    if (!words_in(&given, words, options, LOG_POWER_UP.usage, 1, 1))
         return USAGE_OR_FILE;
     struct logfile log = {.name = words[0], .fd = -1};
     int status = log_begin(&log);
     if (status == DONE) {
         uint32_t refusal = log_power_up(&log);
-        status = refusal != ZIKHRODAN_ACCEPTED ? refused(refusal, "%s", words[0]) : log_commit(&log);
+        status = refusal != ZIKHRODAN_ACCEPTED ? refused(refusal, why_change(&log, refusal), "%s", words[0]) : log_commit(&log);
     }
     if (status == DONE) {
         printf("block %" PRIu64 " is opened\n", log_number(&log, log.used - 1));

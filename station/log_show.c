@@ -3,6 +3,7 @@
 #include "log.h"
 #include "log_show.h"
 #include "measure.h"
+#include "why.h"
 #include "words.h"
 
 #include <inttypes.h>
@@ -26,7 +27,8 @@ static int choose(struct log_view *view, const struct wanted *wanted)
     if (wanted->from) {
         uint64_t answer = zikhrodan_log_sample(log->bytes, log->held.blocks * ZIKHRODAN_BLOCK_LEN, log->used, view->from);
         if (zikhrodan_log_refusal(answer) != ZIKHRODAN_ACCEPTED)
-            return refused(zikhrodan_log_refusal(answer), "%s: position %" PRIu64, log->name, view->from);
+            return refused(zikhrodan_log_refusal(answer), why_position(zikhrodan_log_refusal(answer)), "%s: position %" PRIu64,
+                           log->name, view->from);
     } else if (count < samples) {
         view->from = samples - count;
     }
@@ -61,7 +63,7 @@ static int log_show(int given, char **words)
     const struct option options[] = {{"--from", &wanted.from, NULL}, {"--count", &wanted.count, NULL},
                                      {"--json", NULL, &wanted.json}, {"--csv", NULL, &wanted.csv}, {NULL, NULL, NULL}};
 
-    if (!words_in(&given, words, options, 1, 1))
+    if (!words_in(&given, words, options, LOG_SHOW.usage, 1, 1))
         return USAGE_OR_FILE;
     if (wanted.json && wanted.csv)
         return fail("--json and --csv are two forms: one at a time");

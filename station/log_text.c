@@ -35,10 +35,10 @@ static void print_status(const uint8_t *sample)
     for (unsigned place = 0; place < LINES; place++) {
         bool all = place % 4 == 0;
         for (unsigned i = 0; i < 4 && all; i++)
-            all = line_of(sample, line_shown(place + i));
-        if (!line_of(sample, line_shown(place)))
+            all = line_of(sample, place + i);
+        if (!line_of(sample, place))
             continue;
-        const char *name = line_kept(line_shown(place));
+        const char *name = line_kept(place);
         if (all)
             printf("%s%.2s1-4%s", between, name, name + 3);
         else

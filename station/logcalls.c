@@ -5,7 +5,8 @@
 #include <inttypes.h>
 #include <stdio.h>
 
-enum { BLOCK = ZIKHRODAN_BLOCK_LEN };
+/* A block begins with its number, high byte first, and how many samples it has. */
+enum { BLOCK = ZIKHRODAN_BLOCK_LEN, COUNT_AT = 4 };
 
 /* The log from the last used block on; the whole where none is used. */
 struct end {
@@ -56,19 +57,9 @@ static uint64_t asked(const struct logfile *log, uint64_t place, unsigned positi
     return zikhrodan_log_sample(log->bytes + place * BLOCK, BLOCK, 1, position);
 }
 
-/* Positions below the count are accepted, the others refused. Most blocks are full, and then the first question is the last. */
 unsigned log_count(const struct logfile *log, uint64_t place)
 {
-    unsigned least = 0, most = ZIKHRODAN_BLOCK_SAMPLES, position = most - 1;
-
-    while (least < most) {
-        if (zikhrodan_log_refusal(asked(log, place, position)) == ZIKHRODAN_ACCEPTED)
-            least = position + 1;
-        else
-            most = position;
-        position = (least + most) / 2;
-    }
-    return least;
+    return log->bytes[place * BLOCK + COUNT_AT];
 }
 
 const uint8_t *log_sample(const struct logfile *log, uint64_t place, unsigned position)

@@ -1,8 +1,8 @@
 /* logcalls.h: the library's calls on a log that it has found sound.
  *
  * Each call looks at every used block of what it is lent. So a change is asked of the log that begins with the last used block,
- * and a sample of its one block: of a sound log this is proved to be the same as asking of the whole. The library alone decides:
- * how many samples a block has is asked by the position at which it refuses. */
+ * and a sample of its one block: of a sound log this is proved to be the same as asking of the whole. Of a sound block its number
+ * and how many samples it has are read where they stand. */
 #ifndef LOGCALLS_H
 #define LOGCALLS_H
 

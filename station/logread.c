@@ -2,6 +2,7 @@
 #include "logread.h"
 #include "files.h"
 #include "say.h"
+#include "why.h"
 
 #include <fcntl.h>
 #include <stdlib.h>
@@ -80,7 +81,7 @@ int judge(const struct logfile *log)
     uint64_t answer = zikhrodan_log_sample(log->bytes, log->held.blocks * BLOCK, log->used, UINT64_MAX);
 
     if (zikhrodan_log_refusal(answer) == ZIKHRODAN_UNSOUND_LOG)
-        return refused(ZIKHRODAN_UNSOUND_LOG, "%s", log->name);
+        return refused(ZIKHRODAN_UNSOUND_LOG, why_unsound(log), "%s", log->name);
     return 0;
 }
 

@@ -93,6 +93,8 @@ int main(int argc, char **argv)
         whole = command;
         command = named(whole->parts, argv[++at]);
     }
+    if (command && command->parts && !asked && at + 1 == argc)
+        return fail("which command of %s? `zikhrodan %s --help` lists them", command->name, command->name);
     if (!command)
         return fail("there is no command '%s %s'; `zikhrodan %s --help` lists them", whole->name, argv[at], whole->name);
     if (asked || command->parts || wants_help(argc - at - 1, argv + at + 1)) {

@@ -62,6 +62,11 @@ struct flag flag_at(unsigned byte, unsigned bit)
     };
 }
 
+const char *port_name(uint64_t port)
+{
+    return port == ZIKHRODAN_OPERATOR ? "operator" : "recorder";
+}
+
 char *flag_name(struct flag flag, char *name, size_t room)
 {
     char number[NAME_ROOM];

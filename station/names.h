@@ -26,6 +26,9 @@ struct flag eight_flag_at(unsigned byte, unsigned bit); /* of the eight-channel 
 char *flag_name(struct flag flag, char *name, size_t room);
 enum { NAME_ROOM = 40 };
 
+/* "operator" or "recorder": a port's, 1 or 2. */
+const char *port_name(uint64_t port);
+
 /* Such as "Rx power 3": a monitor's, 0 to 13. */
 char *monitor_name(unsigned monitor, char *name, size_t room);
 unsigned quantity_of(unsigned monitor);

@@ -2,6 +2,7 @@
 #include "command.h"
 #include "dump.h"
 #include "state.h"
+#include "why.h"
 #include "words.h"
 
 #include <stdio.h>
@@ -20,7 +21,7 @@ static int read_from(struct state *state, const char *name, uint64_t port, uint6
     uint32_t answer = state->kind->read(state->bytes, state->len, port, address, count, bytes, sizeof bytes);
 
     if (zikhrodan_refusal_of(answer) != ZIKHRODAN_ACCEPTED)
-        return refused_by(state->kind, zikhrodan_refusal_of(answer), "%s", name);
+        return refused(zikhrodan_refusal_of(answer), why_read(state->kind, zikhrodan_refusal_of(answer), port), "%s", name);
     if (raw)
         fwrite(bytes, 1, (size_t)count, stdout);
     else
@@ -36,7 +37,7 @@ static int read_command(int given, char **words)
     struct state state;
     uint64_t port, address, count;
 
-    if (!words_in(&given, words, options, 4, 4) || !port_in(words[1], &port) || !number_in(words[2], "the address", &address) ||
+    if (!words_in(&given, words, options, READ.usage, 4, 4) || !port_in(words[1], &port) || !number_in(words[2], "the address", &address) ||
         !number_in(words[3], "the count", &count))
         return USAGE_OR_FILE;
     int status = state_open(&state, words[0], NULL, IS_ERROR);

@@ -10,6 +10,7 @@
 #include <inttypes.h>
 #include <stdlib.h>
 #include <string.h>
+#include <strings.h>
 #include <sys/stat.h>
 
 struct wanted {
@@ -43,6 +44,9 @@ static int find_place(const struct wanted *wanted, const char *log, char **path)
 {
     if (strcmp(wanted->page, "-") == 0)
         return fail("the page goes to a file, not to standard output; one that is named - is ./-");
+    const char *dot = strrchr(wanted->page, '.');
+    if (!dot || (strcasecmp(dot, ".html") != 0 && strcasecmp(dot, ".htm") != 0))
+        return fail("%s: the page is HTML, and its file's name ends in .html or .htm", wanted->page);
     *path = resolved(wanted->page, true);
     if (!*path)
         return fail_errno(wanted->page);
@@ -63,7 +67,7 @@ static int find_module(struct report *report, const char *name)
     int status = name ? state_peek(&report->module, name, &FOUR) : DONE;
     for (unsigned i = 0; i < 2 && status == DONE; i++) {
         uint32_t refusal = zikhrodan_limits_refusal(report->module.bytes, report->module.len, quantities[i]);
-        status = refusal != ZIKHRODAN_ACCEPTED ? refused(refusal, "%s", module_words(report)) : DONE;
+        status = refusal != ZIKHRODAN_ACCEPTED ? refused(refusal, zikhrodan_words(refusal), "%s", module_words(report)) : DONE;
     }
     return status;
 }
@@ -126,7 +130,7 @@ static int report_log(int given, char **words)
                                      {"--start", &wanted.start, NULL}, {"--state", &wanted.state, NULL}, {NULL, NULL, NULL}};
     char *path = NULL;
 
-    if (!words_in(&given, words, options, 1, 1) || !moments_in(wanted.period, wanted.start, &report.moments))
+    if (!words_in(&given, words, options, REPORT.usage, 1, 1) || !moments_in(wanted.period, wanted.start, &report.moments))
         return USAGE_OR_FILE;
     if (!wanted.page)
         return fail("-o is missing, and after it where the page goes: a file such as day.html");

@@ -65,8 +65,7 @@ struct report {
     struct level levels[LEVELS];
 };
 
-/* Reads every sample, asks the library when each line died, and holds one to the other. Gives 0, or an exit status with the error
- * said. */
+/* Reads every sample, and asks the library when each line died. Gives 0, or an exit status with the error said. */
 int report_read(struct report *report);
 
 /* The module in an error's words. */

@@ -1,6 +1,6 @@
 /* report_axis.c: the axis below a picture: positions and, where they are known, hours; and the lines that go up from it. See
  * report.h. */
-#include "page.h"
+#include "html.h"
 #include "report.h"
 
 #include <inttypes.h>

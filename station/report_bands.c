@@ -1,5 +1,5 @@
 /* report_bands.c: the picture of the 24 lines: a band for each, over the samples. See report.h. */
-#include "page.h"
+#include "html.h"
 #include "report.h"
 #include "say.h"
 

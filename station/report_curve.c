@@ -1,5 +1,5 @@
 /* report_curve.c: a light level over the samples. See report.h. */
-#include "page.h"
+#include "html.h"
 #include "report.h"
 
 #include <inttypes.h>

@@ -1,5 +1,5 @@
 /* report_head.c: the head of the page: what it is of, and the answer. See report.h. */
-#include "page.h"
+#include "html.h"
 #include "report.h"
 #include "say.h"
 

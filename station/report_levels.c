@@ -1,5 +1,5 @@
 /* report_levels.c: the pictures of the light levels, received and sent, beside their limits. See report.h. */
-#include "page.h"
+#include "html.h"
 #include "report.h"
 
 #include <inttypes.h>

@@ -1,5 +1,5 @@
 /* report_ranges.c: the table of the light levels: the least, the most, and the limits. See report.h. */
-#include "page.h"
+#include "html.h"
 #include "report.h"
 
 const unsigned LIMIT_ORDER[LIMITS] = {ZIKHRODAN_HIGH_ALARM, ZIKHRODAN_HIGH_WARNING, ZIKHRODAN_LOW_WARNING, ZIKHRODAN_LOW_ALARM};

@@ -3,8 +3,7 @@
 #include "measure.h"
 #include "report.h"
 #include "say.h"
-
-#include <inttypes.h>
+#include "why.h"
 
 /* The stretch that just ended is a mark of its own, or is drawn as one with those before it. */
 static void mark(struct band *band, uint64_t part, uint64_t until)
@@ -73,7 +72,7 @@ static int take_levels(struct report *report, uint64_t position, const uint8_t *
 
     uint32_t refusal = measure(&report->module, sample, kinds, values);
     if (refusal != ZIKHRODAN_ACCEPTED)
-        return refused(refusal, "%s", module_words(report));
+        return refused(refusal, why_sample(&report->module, refusal), "%s", module_words(report));
     for (unsigned i = 0; i < LEVELS; i++) {
         struct level *level = &report->levels[i];
         unsigned monitor = first[i / 4] + i % 4;
@@ -88,21 +87,14 @@ static int take_levels(struct report *report, uint64_t position, const uint8_t *
     return DONE;
 }
 
-/* Takes the library's answer for a line, beside what the reading of every sample has given. */
-static int ask_first(const struct logfile *log, struct band *band, unsigned bit)
+/* When a line died, as the library answers. */
+static int ask(const struct logfile *log, struct band *band, unsigned bit)
 {
     uint64_t answer = log_first(log, bit);
-    uint64_t read = band->made > 0 ? band->marks[0].from + 1 : 0;
-    char name[NAME_ROOM];
+    uint32_t refusal = zikhrodan_log_refusal(answer);
 
-    if (zikhrodan_log_refusal(answer) != ZIKHRODAN_ACCEPTED)
-        return refused(zikhrodan_log_refusal(answer), "%s", log->name);
     band->first = zikhrodan_log_value(answer);
-    if (band->first != read)
-        return fail("%s: the library's answer for %s is %" PRIu64 ", but reading every sample gives %" PRIu64
-                    " (0 for none, else the position plus 1): no page is written", log->name,
-                    line_name(bit, name, sizeof name), band->first, read);
-    return DONE;
+    return refusal == ZIKHRODAN_ACCEPTED ? DONE : refused(refusal, why_line(refusal), "%s", log->name);
 }
 
 int report_read(struct report *report)
@@ -121,7 +113,7 @@ int report_read(struct report *report)
     for (unsigned bit = 0; bit < LINES && status == DONE; bit++) {
         if (report->bands[bit].open)
             end_stretch(report, bit, samples);
-        status = ask_first(&report->log, &report->bands[bit], bit);
+        status = ask(&report->log, &report->bands[bit], bit);
     }
     return status;
 }

@@ -1,6 +1,6 @@
 /* report_tables.c: the numbers behind the pictures. See report.h. */
 #include "logcalls.h"
-#include "page.h"
+#include "html.h"
 #include "report.h"
 
 #include <inttypes.h>

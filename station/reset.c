@@ -1,6 +1,7 @@
 /* reset.c: zikhrodan reset. */
 #include "command.h"
 #include "state.h"
+#include "why.h"
 #include "words.h"
 
 #include <stdio.h>
@@ -14,7 +15,8 @@ static int reset_to(struct state *state, const char *name, const uint8_t *image,
     uint32_t refusal = zikhrodan_refusal_of(answer);
 
     if (refusal != ZIKHRODAN_ACCEPTED)
-        return refused_by(state->kind, refusal, "%s", refusal == ZIKHRODAN_STATE_SIZE || !name ? state->name : name);
+        return refused(refusal, eight ? EIGHT.words(refusal) : why_image(refusal, image, image_len), "%s",
+                       refusal == ZIKHRODAN_STATE_SIZE || !name ? state->name : name);
     return state_save(state);
 }
 
@@ -26,7 +28,7 @@ static int reset(int given, char **words)
     uint8_t image[IMAGE_ROOM];
     size_t image_len;
 
-    if (!words_in(&given, words, options, 1, 2))
+    if (!words_in(&given, words, options, RESET.usage, 1, 2))
         return USAGE_OR_FILE;
     const char *name = given == 2 ? words[1] : NULL;
     if (eight && name)

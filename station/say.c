@@ -1,10 +1,10 @@
 /* say.c: see say.h. */
 #include "say.h"
 #include "kind.h"
-#include "words.h"
 
 #include <errno.h>
 #include <inttypes.h>
+#include <poll.h>
 #include <stdarg.h>
 #include <stdbool.h>
 #include <stdio.h>
@@ -53,32 +53,23 @@ int fail_errno(const char *name)
     return fail("%s: %s", name, strerror(errno));
 }
 
-/* The line's beginning, and then the refusal. */
-static int end_refused(const struct kind *kind, uint32_t refusal, const char *of, va_list words)
+int refused(uint32_t refusal, const char *why, const char *of, ...)
 {
+    va_list words;
+
+    va_start(words, of);
     begin_error(of, words);
-    fprintf(stderr, ": refused %u, %s\n", refusal, kind->words(refusal));
+    va_end(words);
+    fprintf(stderr, ": refused %u, %s\n", refusal, why);
     return REFUSED;
 }
 
-int refused_by(const struct kind *kind, uint32_t refusal, const char *of, ...)
+/* Whether nobody is there any more to read what is printed. */
+static bool reader_gone(void)
 {
-    va_list words;
+    struct pollfd out = {.fd = STDOUT_FILENO, .events = POLLOUT};
 
-    va_start(words, of);
-    int status = end_refused(kind, refusal, of, words);
-    va_end(words);
-    return status;
-}
-
-int refused(uint32_t refusal, const char *of, ...)
-{
-    va_list words;
-
-    va_start(words, of);
-    int status = end_refused(&FOUR, refusal, of, words);
-    va_end(words);
-    return status;
+    return poll(&out, 1, 0) > 0 && (out.revents & POLLERR);
 }
 
 int finished(int status)
@@ -88,7 +79,7 @@ int finished(int status)
     if (said || (fflush(stdout) == 0 && !ferror(stdout)))
         return status;
     said = true;
-    return fail_errno("standard output");
+    return errno == EPIPE || reader_gone() ? USAGE_OR_FILE : fail_errno("standard output");
 }
 
 const char *paint(enum colour colour)
@@ -97,10 +88,10 @@ const char *paint(enum colour colour)
         [PLAIN] = "\33[0m", [BAD] = "\33[31m", [GOOD] = "\33[32m", [FAINT] = "\33[2m", [STRONG] = "\33[1m",
     };
     static int colours = -1;
-    const char *terminal = getenv("TERM");
+    const char *terminal = getenv("TERM"), *without = getenv("NO_COLOR");
 
     if (colours < 0)
-        colours = isatty(STDOUT_FILENO) && !getenv("NO_COLOR") && !(terminal && strcmp(terminal, "dumb") == 0);
+        colours = isatty(STDOUT_FILENO) && !(without && without[0]) && !(terminal && strcmp(terminal, "dumb") == 0);
     return colours ? codes[colour] : "";
 }
 
@@ -109,9 +100,9 @@ const char *plural(uint64_t number)
     return number == 1 ? "" : "s";
 }
 
-void say_refusal(const struct kind *kind, uint32_t refusal)
+void say_refusal(uint32_t refusal, const char *why)
 {
-    printf("%srefused %u, %s%s\n", paint(BAD), refusal, kind->words(refusal), paint(PLAIN));
+    printf("%srefused %u, %s%s\n", paint(BAD), refusal, why, paint(PLAIN));
 }
 
 void say_count(const struct kind *kind, uint64_t port, unsigned count)

@@ -1,6 +1,7 @@
 /* show.c: `zikhrodan show`: a look that clears nothing. Asks the library for all that is shown; one of the forms prints it. */
 #include "command.h"
 #include "show.h"
+#include "why.h"
 #include "words.h"
 
 /* The ports wanted; 0, or an exit status with the error said, of a state or a port that the library refuses altogether. */
@@ -16,7 +17,7 @@ static int ask_ports(struct shown *shown, const char *name, const char *word)
         *port = (struct shown_port){.number = first + i, .view = ask_port(&shown->state, first + i)};
         ask_masked(&shown->state, port->number, port->masked);
         if (!answered(port) && port->view.refusal != ZIKHRODAN_UNSOUND_RECORD)
-            return refused_by(shown->state.kind, port->view.refusal, "%s", name);
+            return refused(port->view.refusal, shown->state.kind->words(port->view.refusal), "%s", name);
     }
     return DONE;
 }
@@ -28,9 +29,9 @@ static int refusals(const struct shown *shown, const char *name)
 
     for (const struct shown_port *port = shown->ports; port < shown->ports + shown->port_count; port++)
         if (!answered(port))
-            status = refused_by(shown->state.kind, port->view.refusal, "%s: %s", name, port_name(port->number));
+            status = refused(port->view.refusal, why_port(shown->state.kind, port->view.refusal, port->number), "%s", name);
     if (shown->identity.refusal != ZIKHRODAN_ACCEPTED)
-        status = refused(shown->identity.refusal, "%s: identity", name);
+        status = refused(shown->identity.refusal, zikhrodan_words(shown->identity.refusal), "%s: identity", name);
     return status;
 }
 
@@ -47,7 +48,7 @@ static int show(int given, char **words)
                                      {"--raised", NULL, &wanted.raised}, {"--all", NULL, &wanted.all},
                                      {"--json", NULL, &wanted.json}, {"--hex", NULL, &wanted.hex}, {NULL, NULL, NULL}};
 
-    if (!words_in(&given, words, options, 1, 1))
+    if (!words_in(&given, words, options, SHOW.usage, 1, 1))
         return USAGE_OR_FILE;
     if (wanted.raised + wanted.all + wanted.json + wanted.hex > 1)
         return fail("--raised, --all, --json and --hex are four forms: one at a time");

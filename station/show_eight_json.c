@@ -13,7 +13,7 @@ static void mask_address(struct json *json, struct place at)
 static void bit_value(struct json *json, const char *key, const uint8_t *flags, struct place at, bool heard)
 {
     json_key(json, key);
-    heard ? json_bool(json, bit_of(flags, at.byte, at.bit)) : json_null(json);
+    heard ? json_bool(json, bit_at(flags, at)) : json_null(json);
 }
 
 static void flag_object(struct json *json, const struct shown *shown, const struct shown_port *port, struct place at)
@@ -40,7 +40,7 @@ static void flags(struct json *json, const struct shown *shown, const struct sho
     json_key(json, "flags");
     json_list(json);
     for (unsigned i = 0; i < MOST_FLAGS; i++) {
-        struct place at = {FLAGS_AT + i / 8, 7 - i % 8};
+        struct place at = place_shown(&EIGHT, i);
         if (eight_flag_at(at.byte, at.bit).of)
             flag_object(json, shown, port, at);
     }

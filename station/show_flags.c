@@ -1,6 +1,7 @@
 /* show_flags.c: flags port by port, in the document's order, and a line for each port. */
 #include "say.h"
 #include "show_rows.h"
+#include "why.h"
 #include "words.h"
 
 #include <stdio.h>
@@ -35,7 +36,7 @@ static void print_row(const struct shown *shown, const struct row *row)
     for (unsigned i = 0; i < shown->port_count; i++) {
         const struct shown_port *port = &shown->ports[i];
         if (answered(port))
-            column(shown, i, bit_of(port->view.flags, row->at.byte, row->at.bit) ? BAD : FAINT, cell(shown, port, row->at));
+            column(shown, i, bit_at(port->view.flags, row->at) ? BAD : FAINT, cell(shown, port, row->at));
     }
     putchar('\n');
 }
@@ -66,7 +67,7 @@ static void port_line(const struct kind *kind, const struct shown_port *port)
 
     if (!answered(port)) {
         printf("%s%s%s%s: ", paint(STRONG), port_name(port->number), paint(PLAIN), kind->aside);
-        say_refusal(kind, view->refusal);
+        say_refusal(view->refusal, why_port(kind, view->refusal, port->number));
         return;
     }
     say_count(kind, port->number, view->count);

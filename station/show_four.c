@@ -49,7 +49,7 @@ static int load_factory(const struct shown *shown, const char *name, uint8_t ima
     if (status != DONE)
         return status;
     uint32_t refusal = zikhrodan_refusal_of(zikhrodan_reset(copy.bytes, copy.len, image, len));
-    return refusal == ZIKHRODAN_IMAGE_SIZE ? refused(refusal, "%s", name) : DONE;
+    return refusal == ZIKHRODAN_IMAGE_SIZE ? refused(refusal, zikhrodan_words(refusal), "%s", name) : DONE;
 }
 
 /* The forms that show more than bytes and flags. */

@@ -2,6 +2,7 @@
 #include "dump.h"
 #include "say.h"
 #include "show.h"
+#include "why.h"
 #include "words.h"
 
 #include <stdio.h>
@@ -19,7 +20,7 @@ void end_title(const struct shown *shown, const struct shown_port *port)
         putchar('\n');
     } else {
         fputs(": ", stdout);
-        say_refusal(shown->state.kind, port->view.refusal);
+        say_refusal(port->view.refusal, why_port(shown->state.kind, port->view.refusal, port->number));
     }
 }
 

@@ -49,16 +49,17 @@ static void flag_values(struct json *json, const struct shown_port *port, struct
     if (count > 1)
         json_begin(json, '[');
     for (unsigned i = 0; i < count; i++)
-        json_bool(json, bit_of(port->view.flags, places[i].byte, places[i].bit));
+        json_bool(json, bit_at(port->view.flags, places[i]));
     if (count > 1)
         json_end(json);
 }
 
-/* Each kind of flag once, at its first channel; Rx before Tx, and the high alarm before the low one. */
+/* Each kind of flag once, at its first channel. */
 static void flags_values(struct json *json, const struct shown_port *port)
 {
     for (unsigned i = 0; i < 8 * FLAG_BYTES; i++) {
-        struct flag flag = flag_at(FLAGS_AT + i / 8, (i % 8) ^ 3);
+        struct place at = place_shown(&FOUR, i);
+        struct flag flag = flag_at(at.byte, at.bit);
         char key[2 * NAME_ROOM];
         if (!flag.of || flag.channel > 1)
             continue;

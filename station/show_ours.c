@@ -1,13 +1,14 @@
 /* show_ours.c: the object "zikhrodan" of a port's JSON: what ethtool has no key for. */
 #include "show_json.h"
+#include "why.h"
 #include "words.h"
 
-static void refusal(struct json *json, const struct kind *kind, uint32_t number)
+static void refusal(struct json *json, uint32_t number, const char *why)
 {
     json_key(json, "refusal");
     json_number(json, number);
     json_key(json, "words");
-    json_words(json, kind->words(number));
+    json_words(json, why);
 }
 
 static void our_identity(struct json *json, const struct shown_identity *identity)
@@ -16,7 +17,7 @@ static void our_identity(struct json *json, const struct shown_identity *identit
 
     json_key(json, "identity");
     json_begin(json, '{');
-    refusal(json, &FOUR, identity->refusal);
+    refusal(json, identity->refusal, zikhrodan_words(identity->refusal));
     json_key(json, "page");
     heard ? json_words(json, identity->page == ZIKHRODAN_LIVE ? "live" : "factory") : json_null(json);
     json_key(json, "image");
@@ -34,9 +35,11 @@ static void names(struct json *json, const uint8_t flags[MOST_FLAG_BYTES])
     char name[NAME_ROOM];
 
     json_begin(json, '[');
-    for (unsigned i = 0; i < 8 * FLAG_BYTES; i++)
-        if (bit_of(flags, FLAGS_AT + i / 8, 7 - i % 8))
-            json_words(json, flag_name(flag_at(FLAGS_AT + i / 8, 7 - i % 8), name, sizeof name));
+    for (unsigned i = 0; i < 8 * FLAG_BYTES; i++) {
+        struct place at = place_shown(&FOUR, i);
+        if (bit_at(flags, at))
+            json_words(json, flag_name(flag_at(at.byte, at.bit), name, sizeof name));
+    }
     json_end(json);
 }
 
@@ -49,7 +52,7 @@ void json_port(struct json *json, const struct shown *shown, const struct shown_
     json_number(json, shown->state.kind->channels);
     json_key(json, "port");
     json_words(json, port_name(port->number));
-    refusal(json, shown->state.kind, view->refusal);
+    refusal(json, view->refusal, why_port(shown->state.kind, view->refusal, port->number));
     json_key(json, "count");
     heard ? json_number(json, view->count) : json_null(json);
     json_key(json, "interrupt");

@@ -8,15 +8,15 @@ const char *cell(const struct shown *shown, const struct shown_port *port, struc
     static const char *const words[8] = {
         "-", "raised", "pending", "raised, pending", "masked", "raised, masked", "pending, masked", "raised, pending, masked",
     };
-    bool raised = bit_of(port->view.flags, at.byte, at.bit), masked = bit_of(port->masked, at.byte, at.bit);
-    bool pending = shown->conditions && bit_of(port->view.pending, at.byte, at.bit);
+    bool raised = bit_at(port->view.flags, at), masked = bit_at(port->masked, at);
+    bool pending = shown->conditions && bit_at(port->view.pending, at);
 
     return words[raised | pending << 1 | masked << 2];
 }
 
 bool stands(const struct shown *shown, struct place at)
 {
-    return shown->conditions && bit_of(shown->conditions, at.byte, at.bit);
+    return shown->conditions && bit_at(shown->conditions, at);
 }
 
 /* Whether there are several channels, and all that a row tells is the same for each of them. */
@@ -38,7 +38,7 @@ static bool is_shown(const struct shown *shown, struct place at, enum which_flag
 
     for (unsigned i = 0; i < shown->port_count; i++) {
         const struct shown_port *port = &shown->ports[i];
-        tells |= bit_of(port->view.flags, at.byte, at.bit);
+        tells |= bit_at(port->view.flags, at);
         tells |= which == TELLING_FLAGS && strcmp(cell(shown, port, at), "-") != 0;
     }
     return tells;
@@ -51,7 +51,7 @@ unsigned rows_of(const struct shown *shown, enum which_flags which, struct row r
 
     *others = 0;
     for (unsigned i = 0; i < 8 * kind->flag_bytes; i++) {
-        struct place at = {FLAGS_AT + i / 8, 7 - i % 8}, places[MOST_CHANNELS];
+        struct place at = place_shown(kind, i), places[MOST_CHANNELS];
         struct flag flag = kind->flag_at(at.byte, at.bit);
         bool told = flag.of && is_shown(shown, at, which);
         *others += flag.of && !told;

@@ -40,7 +40,7 @@ static void identity_part(const struct shown_identity *identity)
     heading("identity");
     if (identity->refusal != ZIKHRODAN_ACCEPTED) {
         fputs(": ", stdout);
-        say_refusal(&FOUR, identity->refusal);
+        say_refusal(identity->refusal, zikhrodan_words(identity->refusal));
     } else if (identity->page == ZIKHRODAN_LIVE) {
         puts(", from the live page 00h");
     } else {
@@ -59,9 +59,10 @@ static void identity_part(const struct shown_identity *identity)
 static bool is_outside(const struct shown *shown, unsigned monitor, enum zikhrodan_which limit)
 {
     for (unsigned i = 0; i < 8 * FLAG_BYTES; i++) {
-        struct flag flag = flag_at(FLAGS_AT + i / 8, i % 8);
+        struct place at = place_shown(&FOUR, i);
+        struct flag flag = flag_at(at.byte, at.bit);
         if (flag.of && flag.monitor == monitor && flag.limit == (int)limit)
-            return bit_of(shown->outside, FLAGS_AT + i / 8, i % 8);
+            return bit_at(shown->outside, at);
     }
     return false;
 }

@@ -22,11 +22,13 @@ static void print_flags(const struct kind *kind, const uint8_t flags[MOST_FLAG_B
     char name[NAME_ROOM];
     const char *between = "";
 
-    for (unsigned i = 0; i < 8 * kind->flag_bytes; i++)
-        if (bit_of(flags, FLAGS_AT + i / 8, 7 - i % 8)) {
-            printf("%s%s", between, flag_name(kind->flag_at(FLAGS_AT + i / 8, 7 - i % 8), name, sizeof name));
-            between = ", ";
-        }
+    for (unsigned i = 0; i < 8 * kind->flag_bytes; i++) {
+        struct place at = place_shown(kind, i);
+        if (!bit_at(flags, at))
+            continue;
+        printf("%s%s", between, flag_name(kind->flag_at(at.byte, at.bit), name, sizeof name));
+        between = ", ";
+    }
 }
 
 /* A line, where there is a flag to tell. */
@@ -86,7 +88,7 @@ static int watch(int given, char **words)
     static const struct option options[] = {{0}};
     static struct feed feed = {.log = {.fd = -1}, .tell = tell};
 
-    if (!words_in(&given, words, options, 1, INT_MAX))
+    if (!words_in(&given, words, options, WATCH.usage, 1, INT_MAX))
         return USAGE_OR_FILE;
     feed.name = words[0];
     return feed_all(&feed, words + 1, given - 1);

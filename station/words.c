@@ -1,11 +1,11 @@
 /* words.c: see words.h. */
 #include "words.h"
+#include "names.h"
 #include "say.h"
 
 #include <errno.h>
 #include <stdlib.h>
 #include <string.h>
-#include <zikhrodan.h>
 
 bool number_in(const char *word, const char *what, uint64_t *number)
 {
@@ -21,26 +21,15 @@ bool number_in(const char *word, const char *what, uint64_t *number)
     return false;
 }
 
-static const struct { const char *name; uint64_t port; } PORT_NAMES[] = {
-    {"operator", ZIKHRODAN_OPERATOR}, {"recorder", ZIKHRODAN_RECORDER},
-};
-
 bool port_in(const char *word, uint64_t *port)
 {
-    for (size_t i = 0; i < sizeof PORT_NAMES / sizeof PORT_NAMES[0]; i++)
-        if (strcmp(word, PORT_NAMES[i].name) == 0) {
-            *port = PORT_NAMES[i].port;
+    for (*port = ZIKHRODAN_OPERATOR; *port <= ZIKHRODAN_RECORDER; ++*port)
+        if (strcmp(word, port_name(*port)) == 0)
             return true;
-        }
     if (word[0] >= '0' && word[0] <= '9')
         return number_in(word, "the port", port);
     fail("the port '%s' is neither operator nor recorder, nor a number", word);
     return false;
-}
-
-const char *port_name(uint64_t port)
-{
-    return PORT_NAMES[port == ZIKHRODAN_OPERATOR ? 0 : 1].name;
 }
 
 /* Takes one option, which stands at `words[at]`; gives how many words it has, or 0 with an error said. */
@@ -74,7 +63,28 @@ static bool is_option(const char *word, const struct option *options)
     return found;
 }
 
-bool words_in(int *given, char **words, const struct option *options, int least, int most)
+/* Says which word is missing, the one after `given` of those that the usage has outside brackets, but for an option's. */
+static void say_missing(const char *usage, int given)
+{
+    size_t len = 0;
+    unsigned brackets = 0;
+    bool of_option = false;
+
+    for (const char *at = usage; *at; at += len, at += strspn(at, " ")) {
+        bool counts = !of_option && brackets == 0 && *at != '[' && *at != '-';
+        len = strcspn(at, " ");
+        for (size_t i = 0; i < len; i++)
+            brackets += (at[i] == '[') - (at[i] == ']');
+        of_option = *at == '-';
+        if (counts && given-- == 0) {
+            size_t dots = len > 2 && strncmp(at + len - 2, "..", 2) == 0 ? 2 : 0;
+            fail("%.*s is missing (--help has an example)", (int)(len - dots), at);
+            return;
+        }
+    }
+}
+
+bool words_in(int *given, char **words, const struct option *options, const char *usage, int least, int most)
 {
     int left = 0, at = 0;
 
@@ -93,7 +103,7 @@ bool words_in(int *given, char **words, const struct option *options, int least,
     }
     *given = left;
     if (left < least)
-        fail("a word is missing (--help says which)");
+        say_missing(usage, left);
     else if (left > most)
         fail("'%s' is a word too many (--help says which there are)", words[most]);
     return left >= least && left <= most;

@@ -11,9 +11,6 @@ bool number_in(const char *word, const char *what, uint64_t *number);
 /* A port by its name, "operator" or "recorder", or by any number: whether there is such a port the library says. */
 bool port_in(const char *word, uint64_t *port);
 
-/* The name of a port, 1 or 2. */
-const char *port_name(uint64_t port);
-
 /* A command's options, each a word that starts "-": taken out of the words, which then are `given` in number. */
 struct option {
     const char *name;   /* such as "--raw" */
@@ -21,7 +18,8 @@ struct option {
     bool *flag;         /* or what becomes true */
 };
 
-/* Takes the options out, up to a word "--"; false, with an error said, if then not `least` to `most` words are left. */
-bool words_in(int *given, char **words, const struct option *options, int least, int most);
+/* Takes the options out, up to a word "--"; false, with an error said, if then not `least` to `most` words are left. Which one is
+ * missing the command's usage says. */
+bool words_in(int *given, char **words, const struct option *options, const char *usage, int least, int most);
 
 #endif

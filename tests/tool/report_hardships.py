@@ -140,21 +140,8 @@ def modules(folder, checks):
               made(folder, "--period", "60", "--start", "9999-12-31T00:01Z"))
 
 
-def lies(folder, checks):
-    with checks.group("where the library's answer is not what the samples have, that is said, and there is no page") as group:
-        files, program = begun(folder), link(folder.parent / "lying", "lying.c", ["zikhrodan_log_first"])
-        for bit, name, told, has in ((2, "Rx3 loss of signal", 828 ^ 1, 828), (0, "Rx1 loss of signal", 1, 0),
-                                     (23, "Tx4 loss of lock", 1, 0)):
-            line = (f"zikhrodan: day.log: the library's answer for {name} is {told}, but reading every sample gives {has} "
-                    "(0 for none, else the position plus 1): no page is written\n")
-            stays(group, folder, name, files, (2, "", line),
-                  made(folder, program=program, env=dict(environment(folder), LYING=str(bit))))
-        kept(folder / "day.log", [[row([1])]])
-        group.same("no lie", (0, "page.html: 1 of 24 lines died, the first at position 0\n", ""), made(folder, program=program))
-
-
 def run(folder, checks):
-    for part in (damaged, places, disks, modules, lies):
+    for part in (damaged, places, disks, modules):
         place = folder / part.__name__
         place.mkdir()
         part(place, checks)

@@ -32,14 +32,13 @@ import report_drawn
 import report_hardships
 import report_looks
 import report_whole
-import rules
 import stored
 import synced
 import terminals
 import together
 from bench import Checks, settle
 
-PARTS = {part.__name__: part for part in (rules, manual, stored, examples, keys, eight, outputs, disk, synced, kills, together,
+PARTS = {part.__name__: part for part in (manual, stored, examples, keys, eight, outputs, disk, synced, kills, together,
                                            pauses, links, terminals, log_kills, log_moments, log_power, log_together,
                                            log_hardships, log_outputs, log_costs, decimals, died, died_hours, report,
                                            report_whole, report_drawn, report_looks, report_hardships)}

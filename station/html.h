@@ -1,6 +1,6 @@
-/* page.h: text of a page of HTML. */
-#ifndef PAGE_H
-#define PAGE_H
+/* html.h: text of a page of HTML. */
+#ifndef HTML_H
+#define HTML_H
 
 #include <stdint.h>
 #include <stdio.h>
