@@ -8,6 +8,15 @@
 #include <inttypes.h>
 #include <stdlib.h>
 
+/* When the sample at a position was taken. */
+static int find_moment(const struct died_view *view, uint64_t position, struct moment *moment)
+{
+    uint64_t last;
+
+    moment->or_later = power_ups_before(&view->seen, position, &last) > 0;
+    return !view->moments.known || moment_of(&view->moments, position, moment->local, moment->utc) ? DONE : USAGE_OR_FILE;
+}
+
 /* Asks of one line. */
 static int ask(struct died_view *view, uint64_t bit)
 {
@@ -23,7 +32,15 @@ static int ask(struct died_view *view, uint64_t bit)
     death->position = zikhrodan_log_value(answer) - 1;
     death->number = log_number(log, place_of(&view->counts, death->position));
     death->power_ups = power_ups_before(&view->seen, death->position, &death->last);
-    return !view->moments.known || moment_of(&view->moments, death->position, death->local, death->utc) ? DONE : USAGE_OR_FILE;
+    death->while_off = death->power_ups > 0 && death->last == death->position;
+    int status = death->position > 0 ? find_moment(view, death->position - 1, &death->lit) : DONE;
+    return status ? status : find_moment(view, death->position, &death->dark);
+}
+
+void died_lines(const struct died_view *view, bool died[LINES])
+{
+    for (unsigned i = 0; i < view->lines; i++)
+        died[view->deaths[i].bit] = view->deaths[i].died;
 }
 
 /* Asks of the line that is named, or of all. */
@@ -64,9 +81,9 @@ const struct command DIED = {
     .usage = "LOG [LINE] [OPTION ..]",
     .brief = "when a line died, by a log",
     .help = "Says when a line died: which sample of a log is the first in which the line's\n"
-            "status bit is 1, by its position, from 0 on, and its block. Without LINE all 24\n"
-            "are told, with how many power-ups are seen before each death. It is a look: LOG\n"
-            "is not written. LINE is\n\n"
+            "status bit is 1, by its position, from 0 on, and its block. There are four lanes\n"
+            "each way, and 24 status bits of them. Without LINE all 24 are told, with how many\n"
+            "power-ups are seen before each. It is a look: LOG is not written. LINE is\n\n"
             "  rx1 to rx4, tx1 to tx4      loss of signal\n"
             "  rx1-lock.., tx1-lock..      loss of lock\n"
             "  tx1-fault.., tx1-eq..       fault, equaliser fault\n\n"
@@ -77,20 +94,29 @@ const struct command DIED = {
             "                      with Z for UTC or an offset such as +01:00 at its end\n"
             "  --json              for programs: an object with what is told, and with the\n"
             "                      positions before which a power-up is seen\n\n"
-            "With --period and --start, which go together, the hour is told too, in local\n"
-            "time and in UTC. Nobody knows how long the station was off before a power-up:\n"
-            "the hour of a sample after one is the one told, or later. A power-up is seen by\n"
-            "its block, which was opened though the one before it had room, or has no sample.\n"
-            "One that came just when a block was full, with samples after it, is not seen.",
+            "With --period and --start, which go together, hours are told too, and they are\n"
+            "bounds: the line was lit in the sample before, and is dark in this one. Nobody\n"
+            "knows how long the station was off before a power-up: the hour of a sample after\n"
+            "one is the one told, or later, and a line that is dark in the first sample after\n"
+            "one died while the station was off or after. Before the log began a line may\n"
+            "have been dark too. A power-up is seen by its block, which was opened though the\n"
+            "one before it had room, or has no sample. One that came just when a block was\n"
+            "full, with samples after it, is not seen.",
     .examples = "    $ zikhrodan died trial/day.log rx3\n"
-                "    Rx3 loss of signal: the line died at position 827, in block 52; the log has 1440 samples\n"
+                "    Rx3 loss of signal: receive lane 3 lost light at position 827, in block 52; the log has 1440 samples\n"
+                "    lit in the sample before; dark in this one\n"
+                "    before the log began it may have been dark too\n"
                 "    $ zikhrodan died trial/day.log tx1-fault\n"
-                "    Tx1 fault: the line has not died: none of the 1440 samples has it\n"
+                "    Tx1 fault: not in any of the 1440 samples\n"
                 "    $ TZ=Europe/Oslo zikhrodan died trial/day.log rx3 --period 60 --start 2026-11-15T00:00\n"
-                "    Rx3 loss of signal: the line died at position 827, in block 52; the log has 1440 samples\n"
-                "    that was at 2026-11-15T13:47:00+01:00, in UTC 2026-11-15T12:47:00Z\n"
-                "    $ zikhrodan died trial/day.log | head -n 6\n"
+                "    Rx3 loss of signal: receive lane 3 lost light at position 827, in block 52; the log has 1440 samples\n"
+                "    lit in the sample before, at 2026-11-15T13:46:00+01:00, in UTC 2026-11-15T12:46:00Z;\n"
+                "    dark in this one, at 2026-11-15T13:47:00+01:00, in UTC 2026-11-15T12:47:00Z\n"
+                "    before the log began it may have been dark too\n"
+                "    $ zikhrodan died trial/day.log | head -n 8\n"
                 "    trial/day.log: 1440 samples in 90 of 100 blocks\n"
+                "    1 of 4 receive lanes lost light\n"
+                "    before the log began a lane may have been dark, or at fault, too\n"
                 "\n"
                 "    line       name                    position      block  power-ups before\n"
                 "    rx1        Rx1 loss of signal             -          -                 -\n"

@@ -22,12 +22,73 @@ const char *line_kept(unsigned bit)
 /* Four lines of a kind, one after the other; each name begins with its line's "Rx3". */
 char *line_word(unsigned bit, char *word, size_t room)
 {
-    static const char *const kinds[LINES / 4] = {"", "", "-fault", "-eq", "-lock", "-lock"};
+    static const char *const kinds[LINE_KINDS] = {"", "", "-fault", "-eq", "-lock", "-lock"};
     char name[NAME_ROOM];
 
     line_name(bit, name, sizeof name);
-    snprintf(word, room, "%c%.2s%s", tolower((unsigned char)name[0]), name + 1, kinds[bit / 4]);
+    snprintf(word, room, "%c%.2s%s", tolower((unsigned char)name[0]), name + 1, kinds[bit / LANES]);
     return word;
+}
+
+static const struct lane KINDS[LINE_KINDS] = {
+    {.side = "receive", .lost = "lost light", .before = "lit", .after = "dark"},
+    {.side = "transmit", .lost = "lost signal", .before = "with a signal", .after = "without a signal"},
+    {.side = "transmit", .lost = "had a fault", .before = "without a fault", .after = "with a fault"},
+    {.side = "transmit", .lost = "had an equaliser fault", .before = "without an equaliser fault",
+     .after = "with an equaliser fault"},
+    {.side = "receive", .lost = "lost lock", .before = "in lock", .after = "out of lock"},
+    {.side = "transmit", .lost = "lost lock", .before = "in lock", .after = "out of lock"},
+};
+
+struct lane lane_of(unsigned bit)
+{
+    struct lane lane = KINDS[bit / LANES];
+
+    lane.number = bit % LANES + 1;
+    return lane;
+}
+
+bool *lines_of(const uint8_t *sample, bool lines[LINES])
+{
+    for (unsigned bit = 0; bit < LINES; bit++)
+        lines[bit] = line_of(sample, bit);
+    return lines;
+}
+
+unsigned of_kind(const bool lines[LINES], unsigned kind)
+{
+    unsigned count = 0;
+
+    for (unsigned i = 0; i < LANES; i++)
+        count += lines[kind * LANES + i];
+    return count;
+}
+
+char *lines_words(const bool lines[LINES], char text[LINES_ROOM])
+{
+    size_t used = 0;
+
+    text[0] = '\0';
+    for (unsigned bit = 0; bit < LINES; bit++) {
+        bool all = of_kind(lines, bit / LANES) == LANES;
+        const char *name = line_kept(bit), *between = used ? ", " : "";
+        if (!lines[bit] || (all && bit % LANES > 0))
+            continue;
+        used += (size_t)snprintf(text + used, LINES_ROOM - used, "%s%.3s%s%s", between, name, all ? "-4" : "", name + 3);
+    }
+    return text;
+}
+
+char *lost_words(const bool lines[LINES], char text[LINES_ROOM])
+{
+    size_t used = 0;
+
+    text[0] = '\0';
+    for (unsigned kind = 0; kind < LINE_KINDS; kind++)
+        if (of_kind(lines, kind) > 0)
+            used += (size_t)snprintf(text + used, LINES_ROOM - used, "%s%u of %d %s lanes %s", used ? "; " : "",
+                                     of_kind(lines, kind), LANES, KINDS[kind].side, KINDS[kind].lost);
+    return text;
 }
 
 bool line_in(const char *word, uint64_t *bit)

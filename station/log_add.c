@@ -33,7 +33,7 @@ const struct command LOG_ADD = {
                 "    trial/own.log: 44 of 50 blocks used\n"
                 "    $ zikhrodan log add trial/own.log trial/day.rows\n"
                 "    zikhrodan: trial/own.log: at row 101 of trial/day.rows: refused 14, "
-                "a new block is needed, and none is unused or the last one's number is 4294967295\n"
+                "a new block is needed, and none is unused\n"
                 "    100 rows taken\n"
                 "    trial/own.log: 50 of 50 blocks used\n"
                 "    [exit status 1]\n",

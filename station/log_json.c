@@ -1,5 +1,5 @@
 /* log_json.c: the form of a log for programs. The keys of a sample's numbers are those of `zikhrodan show --json`. */
-#include "json.h"
+#include "log_json.h"
 #include "log_show.h"
 
 #include <stdio.h>
@@ -12,10 +12,14 @@ static const char *const KEYS[QUANTITIES] = {
 static void units(void)
 {
     json_key(&json, "units");
-    json_begin(&json, '{');
+    json_list(&json);
     for (unsigned quantity = 0; quantity < QUANTITIES; quantity++) {
-        json_key(&json, KEYS[quantity]);
+        json_begin(&json, '{');
+        json_key(&json, "of");
+        json_words(&json, KEYS[quantity]);
+        json_key(&json, "unit");
         json_words(&json, UNIT_NAMES[QUANTITY_KINDS[quantity]]);
+        json_end(&json);
     }
     json_end(&json);
 }
@@ -23,47 +27,73 @@ static void units(void)
 static void block_line(const struct log_view *view, uint64_t place)
 {
     json_begin(&json, '{');
-    json_key(&json, "number");
+    json_key(&json, "block");
     json_whole(&json, log_number(&view->log, place));
-    json_key(&json, "count");
+    json_key(&json, "sample_count");
     json_whole(&json, view->counts.of[place]);
+    json_end(&json);
+}
+
+void json_log(struct json *out, const struct logfile *log, const struct counts *counts)
+{
+    json_key(out, "log");
+    json_words(out, log->name);
+    json_key(out, "room");
+    json_whole(out, log->held.blocks);
+    json_key(out, "used");
+    json_whole(out, log->used);
+    json_key(out, "sample_count");
+    json_whole(out, counts->samples);
+    json_key(out, "damaged_slot");
+    json_bool(out, log->damaged);
+}
+
+/* Those that the samples shown are in; all, where all are. */
+static void blocks(const struct log_view *view)
+{
+    uint64_t first = 0;
+
+    json_key(&json, "blocks");
+    json_list(&json);
+    for (uint64_t place = 0; place < view->log.used && !ferror(stdout); first += view->counts.of[place++]) {
+        uint64_t from = first > view->from ? first : view->from, end = first + view->counts.of[place];
+        if (view->all || (from < end && from < view->until))
+            block_line(view, place);
+    }
     json_end(&json);
 }
 
 static void begin(struct log_view *view)
 {
     json_begin(&json, '{');
-    json_key(&json, "file");
-    json_words(&json, view->log.name);
-    json_key(&json, "room");
-    json_whole(&json, view->log.held.blocks);
-    json_key(&json, "used");
-    json_whole(&json, view->log.used);
-    json_key(&json, "count");
-    json_whole(&json, view->counts.samples);
-    json_key(&json, "damaged_slot");
-    json_bool(&json, view->log.damaged);
+    json_log(&json, &view->log, &view->counts);
     units();
-    json_key(&json, "blocks");
-    json_list(&json);
-    for (uint64_t place = 0; place < view->log.used && !ferror(stdout); place++)
-        block_line(view, place);
-    json_end(&json);
+    blocks(view);
     json_key(&json, "samples");
     json_list(&json);
 }
 
-/* A number, or an array where the quantity has channels. */
+static void number(const struct log_row *row, unsigned monitor)
+{
+    row->kinds[monitor] == ZIKHRODAN_NOTHING ? json_null(&json) : json_number(&json, row->values[monitor]);
+}
+
+/* The same shapes as in `zikhrodan show --json`. */
 static void numbers(const struct log_row *row)
 {
-    for (unsigned m = 0; m < MONITORS; m++) {
-        bool first = m == 0 || quantity_of(m - 1) != quantity_of(m), channels = quantity_of(m) >= ZIKHRODAN_OF_RX_POWER;
-        if (first)
-            json_key(&json, KEYS[quantity_of(m)]);
-        if (first && channels)
+    for (unsigned quantity = 0; quantity < QUANTITIES; quantity++) {
+        bool channels = quantity >= ZIKHRODAN_OF_RX_POWER, object = quantity == ZIKHRODAN_OF_RX_POWER;
+        json_key(&json, KEYS[quantity]);
+        if (object) {
+            json_begin(&json, '{');
+            json_key(&json, "values");
+        }
+        if (channels)
             json_begin(&json, '[');
-        row->kinds[m] == ZIKHRODAN_NOTHING ? json_null(&json) : json_number(&json, row->values[m]);
-        if (channels && (m + 1 == MONITORS || quantity_of(m + 1) != quantity_of(m)))
+        for (unsigned m = 0; m < MONITORS; m++)
+            if (quantity_of(m) == quantity)
+                number(row, m);
+        for (unsigned i = 0; i < (unsigned)channels + object; i++)
             json_end(&json);
     }
 }

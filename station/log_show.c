@@ -12,7 +12,7 @@
 
 struct wanted {
     const char *from, *count;
-    bool json, csv;
+    bool wide, json, csv;
 };
 
 /* Which samples are wanted: a position that there is not the library refuses. */
@@ -61,13 +61,14 @@ static int log_show(int given, char **words)
     static struct log_view view;
     struct wanted wanted = {0};
     const struct option options[] = {{"--from", &wanted.from, NULL}, {"--count", &wanted.count, NULL},
-                                     {"--json", NULL, &wanted.json}, {"--csv", NULL, &wanted.csv}, {NULL, NULL, NULL}};
+                                     {"--wide", NULL, &wanted.wide}, {"--json", NULL, &wanted.json}, {"--csv", NULL, &wanted.csv},
+                                     {NULL, NULL, NULL}};
 
     if (!words_in(&given, words, options, LOG_SHOW.usage, 1, 1))
         return USAGE_OR_FILE;
-    if (wanted.json && wanted.csv)
-        return fail("--json and --csv are two forms: one at a time");
-    const struct log_form *form = wanted.json ? &LOG_JSON : wanted.csv ? &LOG_CSV : &LOG_TEXT;
+    if (wanted.wide + wanted.json + wanted.csv > 1)
+        return fail("--wide, --json and --csv are three forms: one at a time");
+    const struct log_form *form = wanted.json ? &LOG_JSON : wanted.csv ? &LOG_CSV : wanted.wide ? &LOG_WIDE : &LOG_TEXT;
     int status = log_look(&view.log, words[0]);
     status = status ? status : counts_in(&view.counts, &view.log);
     status = status ? status : choose(&view, &wanted);
@@ -87,20 +88,23 @@ const struct command LOG_SHOW = {
     .usage = "FILE [OPTION ..]",
     .brief = "what a log has",
     .help = "Shows how many samples are in how many of how many blocks, and of each sample\n"
-            "its position, its block's number, its numbers in units, and the status flags\n"
-            "that are 1. Of more than 40 samples the last 20 are shown. It is a look: FILE\n"
-            "is not written.\n\n"
+            "its position, its block's number, temperature, supply, light received, and the\n"
+            "status bits that are 1, by the words that `zikhrodan died` takes. Of more than\n"
+            "40 samples the last 20 are shown. It is a look: FILE is not written.\n\n"
             "  --from N     from position N on, the first sample's being 0\n"
             "  --count N    N samples at most; without --from the last ones\n"
+            "  --wide       every number of a sample, and names: more than 80 columns\n"
             "  --json       for programs: an object with the log's room, its used blocks,\n"
             "               and all that is known of each sample, a line each\n"
             "  --csv        for spreadsheets: a line of names, then a line for each sample\n\n"
-            "--json and --csv go one at a time, and show all samples unless --from or\n"
-            "--count is given.",
+            "--wide, --json and --csv go one at a time; the last two show all samples unless\n"
+            "--from or --count is given, and --json then the blocks of those alone.",
     .examples = "    $ zikhrodan log show trial/day.log | head -n 2\n"
                 "    trial/day.log: 1440 samples in 90 of 100 blocks\n"
                 "    the last 20 of them; --from 0 shows all, --from N --count N some\n"
                 "    $ zikhrodan log show trial/day.log --from 827 --count 1 | tail -n 1\n"
+                "         827         52    40.85 3.3008 0.5280 0.5240 0.0000 0.5160  rx3\n"
+                "    $ zikhrodan log show trial/day.log --from 827 --count 1 --wide | tail -n 1\n"
                 "         827         52     40.8477 3.3008 0.5280 0.5240 0.0000 0.5160   6.006   6.004   6.002   6.000"
                 " 0.9980 0.9960 0.9940 0.9920  Rx3 loss of signal\n"
                 "    $ zikhrodan log show trial/day.log --csv --from 827 --count 2 | cut -d , -f 1-4\n"

@@ -26,6 +26,6 @@ struct log_form {
     void (*row)(const struct log_row *row);
     void (*end)(void); /* may be null */
 };
-extern const struct log_form LOG_TEXT, LOG_JSON, LOG_CSV;
+extern const struct log_form LOG_TEXT, LOG_WIDE, LOG_JSON, LOG_CSV;
 
 #endif

@@ -43,7 +43,7 @@ static int only_a_page(const char *path, const char *name)
 static int find_place(const struct wanted *wanted, const char *log, char **path)
 {
     if (strcmp(wanted->page, "-") == 0)
-        return fail("the page goes to a file, not to standard output; one that is named - is ./-");
+        return fail("the page goes to a file, not to standard output");
     const char *dot = strrchr(wanted->page, '.');
     if (!dot || (strcasecmp(dot, ".html") != 0 && strcasecmp(dot, ".htm") != 0))
         return fail("%s: the page is HTML, and its file's name ends in .html or .htm", wanted->page);
@@ -111,15 +111,16 @@ static int write_page(const struct report *report, const char *path, const char 
 
 static void say_page(const struct report *report, const char *name)
 {
-    unsigned order[LINES], died = lines_in_order(report, order);
+    unsigned order[LINES];
+    char lost[LINES_ROOM];
 
     printf("%s: ", name);
     if (report->counts.samples == 0)
         puts("the log has no samples");
-    else if (died == 0)
-        puts("no line died");
+    else if (lines_in_order(report, order) == 0)
+        puts("no lane lost light, signal or lock, and none had a fault");
     else
-        printf("%u of %d lines died, the first at position %" PRIu64 "\n", died, LINES, report->bands[order[0]].first - 1);
+        printf("%s; the first at position %" PRIu64 "\n", lost_in(report, lost), report->bands[order[0]].first - 1);
 }
 
 static int report_log(int given, char **words)
@@ -151,13 +152,14 @@ const struct command REPORT = {
     .name = "report",
     .usage = "LOG -o FILE.html [OPTION ..]",
     .brief = "a page of a log, to look at",
-    .help = "Writes a page of what happened on the lines: which died, and when; a band for\n"
-            "each of the 24 status lines over the samples, with its dark stretches; light\n"
+    .help = "Writes a page of what happened on the lanes: which lost light, signal or lock or\n"
+            "had a fault, between which two samples, and which are dark in the last; a band\n"
+            "for each of the 24 status bits over the samples, with its dark stretches; light\n"
             "levels beside their limits; power-ups; and the numbers behind the pictures in\n"
             "tables. It opens in any browser, prints on A4, and has no parts outside it. It\n"
             "is written whole or not at all; LOG is not written.\n\n"
-            "  -o FILE.html      where the page goes; a page that is there is replaced;\n"
-            "                    another file is not\n"
+            "  -o FILE.html      where the page goes, in a name that ends in .html or .htm; a\n"
+            "                    page that is there is replaced; another file is not\n"
             "  --period SECONDS  from one sample to the next, such as 60, and\n"
             "  --start TIME      when the first was taken, such as 2026-11-15T08:00, or with\n"
             "                    Z or +01:00 after it: the page has hours too. They go\n"
@@ -165,9 +167,9 @@ const struct command REPORT = {
             "  --state STATE     a module that measures, and whose limits are drawn; else it\n"
             "                    is one that is reset to the built-in factory image",
     .examples = "    $ zikhrodan report trial/day.log -o trial/day.html\n"
-                "    trial/day.html: 1 of 24 lines died, the first at position 827\n"
+                "    trial/day.html: 1 of 4 receive lanes lost light; the first at position 827\n"
                 "    $ TZ=UTC zikhrodan report trial/day.log -o trial/day.html --period 60 --start 2026-11-15T00:00\n"
-                "    trial/day.html: 1 of 24 lines died, the first at position 827\n"
+                "    trial/day.html: 1 of 4 receive lanes lost light; the first at position 827\n"
                 "    $ grep -o 'datetime=\"[^\"]*13:47[^\"]*\"' trial/day.html | sort -u\n"
                 "    datetime=\"2026-11-15T13:47:00+00:00\"\n",
     .run = report_log,

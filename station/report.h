@@ -13,7 +13,7 @@
 
 /* A light level has so many columns at most; what is shorter than one of so many parts of a picture is too short to be seen apart
  * from its neighbours; of dark stretches and of power-ups so many are listed; Rx power 1 to 4 and Tx power 1 to 4. */
-enum { COLUMNS = 2000, PARTS = 500, LISTED = 300, LEVELS = 8, KINDS = 6, CHANNELS_OF_A_KIND = LINES / KINDS };
+enum { COLUMNS = 2000, PARTS = 500, LISTED = 300, LEVELS = 8, KINDS = LINE_KINDS, CHANNELS_OF_A_KIND = LANES };
 
 /* What is drawn of a dark stretch: from its first sample up to the one after its last. Short stretches with nothing but short
  * gaps between them are one mark; so there are two for each part at most. */
@@ -74,8 +74,13 @@ const char *module_words(const struct report *report);
 /* The lines that died, the first one first, and of those that died together the lowest. Gives how many. */
 unsigned lines_in_order(const struct report *report, unsigned order[LINES]);
 
-/* Whether the hour of a sample is but the earliest that it can be: a power-up lies before it. */
+/* How many lanes lost what, as lost_words has it. Gives `text`. */
+char *lost_in(const struct report *report, char text[LINES_ROOM]);
+
+/* Whether the hour of a sample is but the earliest that it can be: a power-up lies before it; and whether one is seen just before
+ * it. */
 bool or_later(const struct report *report, uint64_t position);
+bool after_power_up(const struct report *report, uint64_t position);
 
 /* The parts of the page, in their order. */
 void put_head(FILE *page, const struct report *report);
@@ -88,6 +93,9 @@ extern const char REPORT_STYLE[];
 
 /* With this every page begins. */
 #define PAGE_FRONT "<!DOCTYPE html>"
+
+/* Between which two samples a line's first dark one came, with hours where they are known. */
+void put_between(FILE *page, const struct report *report, unsigned bit);
 
 /* When a sample was taken, local and in UTC; where that is known. */
 void put_moment(FILE *page, const struct report *report, uint64_t position);

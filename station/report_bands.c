@@ -75,7 +75,7 @@ static void put_line(FILE *page, const struct report *report, unsigned bit)
     if (band->first == 0)
         return;
     put(page, "<svg x=\"%.4f%%\" y=\"%u\" class=\"wide\"><path class=\"moment\" d=\"M0 1l-5-7.5h10z\">"
-              "<title>%s died at position %" PRIu64 "</title></path></svg>\n", across(report, band->first - 1), top, name,
+              "<title>%s at position %" PRIu64 "</title></path></svg>\n", across(report, band->first - 1), top, name,
         band->first - 1);
     put(page, "<text x=\"100%%\" dx=\"8\" y=\"%u\" class=\"at died\">%" PRIu64 "</text>\n", text, band->first - 1);
 }
@@ -95,7 +95,7 @@ static void put_words(FILE *page, const struct report *report)
     char name[NAME_ROOM];
     unsigned order[LINES];
 
-    put(page, "<title id=\"bands-title\">The 24 status lines over ");
+    put(page, "<title id=\"bands-title\">The 24 status bits over ");
     put_count(page, report->counts.samples, "sample");
     put(page, "</title>\n<desc id=\"bands-desc\">");
     if (lines_in_order(report, order) == 0)
@@ -122,7 +122,7 @@ static void put_key(FILE *page, const struct report *report)
     if (any_several(report))
         put_sign(page, "<path class=\"lane\" d=\"M0 1h22v12H0z\"/><path class=\"dark\" d=\"M1 6h20v6H1z\"/>",
                  "dark stretches too short and too close to part");
-    put_sign(page, "<path class=\"moment\" d=\"M11 11l-5-7.5h10z\"/>", "the moment the line died");
+    put_sign(page, "<path class=\"moment\" d=\"M11 11l-5-7.5h10z\"/>", "the first dark sample");
     put_power_up_sign(page, report);
     put(page, "</ul>\n");
 }
@@ -131,14 +131,14 @@ void put_bands(FILE *page, const struct report *report)
 {
     unsigned order[LINES];
 
-    put(page, "<section class=\"bands\">\n<h2>The 24 status lines</h2>\n");
+    put(page, "<section class=\"bands\">\n<h2>The 24 status bits</h2>\n");
     put_key(page, report);
     put(page, "<div class=\"plot\"><svg class=\"chart\" width=\"100%%\" height=\"%u\" role=\"img\" "
               "aria-labelledby=\"bands-title bands-desc\">\n", BOTTOM + axis_height(report));
     put_words(page, report);
     put_stretched(page, report);
     if (lines_in_order(report, order) > 0)
-        put(page, "<text x=\"100%%\" dx=\"8\" y=\"%u\" class=\"at\">died at position</text>\n", TOP - 2);
+        put(page, "<text x=\"100%%\" dx=\"8\" y=\"%u\" class=\"at\">first at position</text>\n", TOP - 2);
     for (unsigned kind = 0; kind < KINDS; kind++)
         put_kind(page, kind);
     for (unsigned bit = 0; bit < LINES; bit++)

@@ -8,7 +8,8 @@
 
 enum { NAMED = 4, BILLION = 1000000000 };
 
-/* "Rx3 loss of signal at position 827, at 2026-11-15 13:47:00 +01:00 (..)", or with so many others that died in it. */
+/* "Rx3 loss of signal at position 827: lit in the sample before, at ..; dark in this one, at ..", or with so many others that came
+ * in it. */
 static void put_death(FILE *page, const struct report *report, unsigned bit, unsigned others)
 {
     char name[NAME_ROOM];
@@ -19,20 +20,19 @@ static void put_death(FILE *page, const struct report *report, unsigned bit, uns
         put(page, " and ");
         put_count(page, others, "other");
     }
-    put(page, " at position %" PRIu64, position);
-    if (report->moments.known) {
-        put(page, ", at ");
-        put_moment(page, report, position);
-    }
+    put(page, " at position %" PRIu64 ": ", position);
+    put_between(page, report, bit);
 }
 
-static unsigned dark_at_end(const struct report *report)
+/* The lines that are dark in the last sample; gives how many. */
+static unsigned dark_at_end(const struct report *report, bool lines[LINES])
 {
     unsigned dark = 0;
 
     for (unsigned bit = 0; bit < LINES; bit++) {
         const struct band *band = &report->bands[bit];
-        dark += band->made > 0 && band->marks[band->made - 1].until == report->counts.samples;
+        lines[bit] = band->made > 0 && band->marks[band->made - 1].until == report->counts.samples;
+        dark += lines[bit];
     }
     return dark;
 }
@@ -40,43 +40,40 @@ static unsigned dark_at_end(const struct report *report)
 /* Of few lines each. */
 static void put_few(FILE *page, const struct report *report, const unsigned *order, unsigned died)
 {
-    static const char *const numbers[NAMED + 1] = {"", "One line", "Two lines", "Three lines", "Four lines"};
-
-    put(page, "%s died: ", numbers[died]);
     for (unsigned i = 0; i < died; i++) {
-        put(page, "%s", i == 0 ? "" : i + 1 < died ? "; " : "; and ");
         put_death(page, report, order[i], 0);
+        put(page, ". ");
     }
 }
 
-/* Of many the first one, and how many died with it. */
+/* Of many the first one, and how many came with it. */
 static void put_many(FILE *page, const struct report *report, const unsigned *order, unsigned died)
 {
     unsigned others = 0;
 
     while (others + 1 < died && report->bands[order[others + 1]].first == report->bands[order[0]].first)
         others++;
-    if (died == LINES)
-        put(page, "All %d lines died. ", LINES);
-    else
-        put(page, "%u of the %d lines died. ", died, LINES);
     put(page, "The first %s ", others > 0 ? "were" : "was");
     put_death(page, report, order[0], others);
+    put(page, ". ");
 }
 
 static void put_deaths(FILE *page, const struct report *report, const unsigned *order, unsigned died)
 {
-    unsigned dark = dark_at_end(report);
+    bool lines[LINES];
+    unsigned dark = dark_at_end(report, lines);
+    char text[LINES_ROOM];
 
+    put(page, "%s. ", lost_in(report, text));
     if (died <= NAMED)
         put_few(page, report, order, died);
     else
         put_many(page, report, order, died);
-    put(page, ". ");
-    if (dark <= 1)
-        put(page, "In the last sample %s is dark.", dark == 0 ? "none" : "one");
+    if (dark == 0)
+        put(page, "In the last sample none is dark. ");
     else
-        put(page, "In the last sample %u are dark.", dark);
+        put(page, "In the last sample there %s: %s. ", dark == 1 ? "is" : "are", lines_words(lines, text));
+    put(page, "Before the log began a lane may have been dark, or at fault, too.");
 }
 
 static void put_answer(FILE *page, const struct report *report)
@@ -88,7 +85,8 @@ static void put_answer(FILE *page, const struct report *report)
     if (samples == 0)
         put(page, "There is nothing to tell: the log has no samples.");
     else if (died == 0)
-        put(page, "No line died: no status bit is 1 in %s.", samples == 1 ? "the one sample" : "any sample");
+        put(page, "No lane lost light, signal or lock, and none had a fault: no status bit is 1 in %s.",
+            samples == 1 ? "the one sample" : "any sample");
     else
         put_deaths(page, report, order, died);
     put(page, "</p>\n");
@@ -148,9 +146,10 @@ void put_foot(FILE *page, const struct report *report)
     static const char hours[] = " Hours are counted from the first sample; on the axes they are local time. Nobody knows how long"
                                 " the station was off before a power-up: from there on an hour is that, or later (\u2265).";
 
-    put(page, "</main>\n<footer>\n<p>Positions of samples are counted from 0. A line is dark in a sample whose status bit for it"
-              " is 1, and died in the first of these. Which one that is the proved library has answered; reading every sample"
-              " gave the same.</p>\n");
+    put(page, "</main>\n<footer>\n<p>There are four lanes each way, and 24 status bits of them. A bit that is 1 in a sample is drawn"
+              " as dark, whether light, signal or lock is lost or there is a fault. Which sample is the first of these the proved"
+              " library has answered. Positions of samples are counted from 0. An hour is a bound: it came after the sample before"
+              " and not after this one. The log cannot tell what was before its first sample.</p>\n");
     put(page, "<p>A power-up is seen as a block that was begun though the one before it had room, or that is empty. One that came"
               " just after a block was full, and was followed by samples, leaves no trace.%s</p>\n",
         report->moments.known ? hours : "");

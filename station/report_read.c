@@ -134,6 +134,22 @@ unsigned lines_in_order(const struct report *report, unsigned order[LINES])
     return died;
 }
 
+char *lost_in(const struct report *report, char text[LINES_ROOM])
+{
+    bool died[LINES];
+
+    for (unsigned bit = 0; bit < LINES; bit++)
+        died[bit] = report->bands[bit].first > 0;
+    return lost_words(died, text);
+}
+
+bool after_power_up(const struct report *report, uint64_t position)
+{
+    uint64_t last;
+
+    return power_ups_before(&report->power_ups, position, &last) > 0 && last == position;
+}
+
 bool or_later(const struct report *report, uint64_t position)
 {
     uint64_t last;

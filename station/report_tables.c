@@ -28,6 +28,29 @@ void put_moment(FILE *page, const struct report *report, uint64_t position)
     put(page, ")</span>");
 }
 
+void put_between(FILE *page, const struct report *report, unsigned bit)
+{
+    uint64_t position = report->bands[bit].first - 1;
+    struct lane lane = lane_of(bit);
+
+    if (position > 0) {
+        put(page, "%s in the sample before", lane.before);
+        if (report->moments.known) {
+            put(page, ", at ");
+            put_moment(page, report, position - 1);
+        }
+        put(page, "; %s in this one", lane.after);
+    } else {
+        put(page, "%s in the log\u2019s first sample, and maybe before the log began", lane.after);
+    }
+    if (report->moments.known) {
+        put(page, ", at ");
+        put_moment(page, report, position);
+    }
+    if (after_power_up(report, position))
+        put(page, "; while the station was off or after");
+}
+
 /* A line that died, and all that is known of the moment. */
 static void put_died(FILE *page, const struct report *report, unsigned bit)
 {
@@ -37,12 +60,9 @@ static void put_died(FILE *page, const struct report *report, unsigned bit)
 
     put(page, "<tr><th scope=\"row\">%s</th><td>%" PRIu64 "</td><td>%" PRIu64 "</td>", line_name(bit, name, sizeof name),
         position, log_number(&report->log, place_of(&report->counts, position)));
-    if (report->moments.known) {
-        put(page, "<td class=\"when\">");
-        put_moment(page, report, position);
-        put(page, "</td>");
-    }
-    put(page, "<td>%" PRIu64 "</td><td>%" PRIu64 "</td><td>%" PRIu64 "</td></tr>\n",
+    put(page, "<td class=\"when\">");
+    put_between(page, report, bit);
+    put(page, "</td><td>%" PRIu64 "</td><td>%" PRIu64 "</td><td>%" PRIu64 "</td></tr>\n",
         power_ups_before(&report->power_ups, position, &last), band->stretches, band->dark);
 }
 
@@ -50,12 +70,11 @@ static void put_all_died(FILE *page, const struct report *report)
 {
     unsigned order[LINES], died = lines_in_order(report, order);
 
-    put(page, "<section class=\"died\">\n<h2>When each line died</h2>\n");
+    put(page, "<section class=\"died\">\n<h2>The first dark sample of each line</h2>\n");
     if (died > 0) {
         put(page, "<div class=\"scroll\"><table class=\"deaths\">\n<thead><tr>");
         put_columns(page, (const char *const[]){"line", "position", "block", NULL});
-        if (report->moments.known)
-            put(page, "<th scope=\"col\" class=\"when\">local time and UTC</th>");
+        put(page, "<th scope=\"col\" class=\"when\">%s</th>", report->moments.known ? "when, local time and UTC" : "when");
         put_columns(page, (const char *const[]){"power-ups before", "dark stretches", "dark samples", NULL});
         put(page, "</tr></thead>\n<tbody>\n");
         for (unsigned i = 0; i < died; i++)
@@ -63,8 +82,8 @@ static void put_all_died(FILE *page, const struct report *report)
         put(page, "</tbody></table></div>\n");
     }
     if (died < LINES)
-        put(page, died ? "<p>The other %u lines have no dark sample.</p>\n" : "<p>None of the %u lines has a dark sample.</p>\n",
-            LINES - died);
+        put(page, died ? "<p>The other %u status bits are 1 in no sample.</p>\n"
+                       : "<p>None of the %u status bits is 1 in any sample.</p>\n", LINES - died);
     put(page, "</section>\n");
 }
 

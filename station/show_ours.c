@@ -65,7 +65,7 @@ static void our_answers(struct json *json, const struct shown_port *port)
 
     json_key(json, "selected_page");
     heard ? json_number(json, port->view.page) : json_null(json);
-    json_key(json, "masked");
+    json_key(json, "masked_flags");
     heard ? names(json, port->masked) : json_null(json);
 }
 

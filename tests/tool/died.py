@@ -7,8 +7,8 @@ import logs
 from deaths import LINES, NAMES, WORDS, first, sample, sentence, table, told
 from station import zikhrodan
 
-UNSOUND = "refused 15, the log isn't whole blocks, has fewer than are used, or is unsound\n"
-NO_LINE = "refused 17, the position is past the last sample, or the status bit is above 23\n"
+UNSOUND = "refused 15, block {} of the 2 used is unsound\n"
+NO_LINE = "refused 17, the status bit is above 23\n"
 NO_NUMBER = "is no number, in decimal or after 0x in hex, of 64 bits at most\n"
 NO_LOG = "it is no log; `zikhrodan log new` makes one, under another name\n"
 RANDOM_LOGS = 60
@@ -114,7 +114,7 @@ def damaged(folder, checks):
                     blocks = [mend(run) if at == place else block for at, block in enumerate(good)]
                     path = put(folder, blocks)
                     for form in ((), ("rx3",), ("--json",), ("tx4-fault", "--json"), ("24",)):
-                        group.same(f"{name}, block {place}, {mend.__name__}, {form}", (1, "", f"zikhrodan: kept.log: {UNSOUND}"),
+                        group.same(f"{name}, block {place}, {mend.__name__}, {form}", (1, "", f"zikhrodan: kept.log: {UNSOUND.format(place + 1)}"),
                                    zikhrodan(folder, "died", path.name, *form))
         path = put(folder, good)
         agrees(group, "undamaged", path, 3, 2)

@@ -31,7 +31,10 @@ def moments(folder, zone, start, period):
                                         **within(folder, zone))
     if status != 0:
         return status, complaint
-    return [(line["time_local"], line["time_utc"]) for line in json.loads(text)["lines"]]
+    lines = json.loads(text)["lines"]
+    lit = [(line["lit_at_local"], line["lit_at"]) for line in lines]
+    dark = [(line["dark_at_local"], line["dark_at"]) for line in lines]
+    return dark if lit == [(None, None)] + dark[:-1] else ("the hours of the samples before", lit)  # line N dies at position N
 
 
 def written(instant, fraction):
@@ -86,7 +89,7 @@ def unknown(folder, checks):
                  "/usr/share/zoneinfo/Europe/Oslo": "09:00:00+01:00", "CET": "09:00:00+01:00"}
         for zone, hour in hours.items():
             status, text, complaint = zikhrodan(folder, *asked, **within(folder, zone))
-            said = f"that was at 2026-11-15T{hour}, in UTC 2026-11-15T08:00:00Z"
+            said = f"dark in the log's first sample, at 2026-11-15T{hour}, in UTC 2026-11-15T08:00:00Z\n"
             group.same(zone, (0, True, ""), (status, said in text, complaint))
         (folder / "zones").mkdir()
         copyfile("/usr/share/zoneinfo/Asia/Kolkata", folder / "zones" / "Station")
@@ -174,29 +177,50 @@ def ends(folder, checks):
         for words in (("--period", "60"), ("--start", "2026-11-15T08:00")):
             group.same(words, (2, "", "zikhrodan: --period and --start go together: the hour of a sample needs both\n"),
                        zikhrodan(folder, "died", "kept.log", *words))
-        blocks = [logs.block(1, [sample()] * 3), logs.block(2, [sample(), sample(2)]), logs.block(3, [sample(3)])]
+        blocks = [logs.block(1, [sample(0), sample(), sample()]), logs.block(2, [sample(7), sample(2)]),
+                  logs.block(3, [sample(3)])]
         (folder / "ups.log").write_bytes(logs.file_of(3, blocks))
-        said = {"rx3": ("Rx3 loss of signal: the line died at position 4, in block 2; the log has 6 samples\n"
-                        "that was at 2026-11-15T08:04:00+01:00, in UTC 2026-11-15T07:04:00Z, or later\n"
+        said = {"rx3": ("Rx3 loss of signal: receive lane 3 lost light at position 4, in block 2; the log has 6 samples\n"
+                        "lit in the sample before, at 2026-11-15T08:03:00+01:00, in UTC 2026-11-15T07:03:00Z, or later;\n"
+                        "dark in this one, at 2026-11-15T08:04:00+01:00, in UTC 2026-11-15T07:04:00Z, or later\n"
+                        "before the log began it may have been dark too\n"
                         "1 power-up is seen before it, just before position 3: nobody knows how long the station was off\n"),
-                "rx4": ("Rx4 loss of signal: the line died at position 5, in block 3; the log has 6 samples\n"
-                        "that was at 2026-11-15T08:05:00+01:00, in UTC 2026-11-15T07:05:00Z, or later\n"
+                "rx4": ("Rx4 loss of signal: receive lane 4 lost light at position 5, in block 3; the log has 6 samples\n"
+                        "lit in the sample before, at 2026-11-15T08:04:00+01:00, in UTC 2026-11-15T07:04:00Z, or later;\n"
+                        "dark in this one, at 2026-11-15T08:05:00+01:00, in UTC 2026-11-15T07:05:00Z, or later\n"
+                        "before the log began it may have been dark too\n"
+                        "that came while the station was off or after: a power-up is seen between the two\n"
                         "2 power-ups are seen before it, the last just before position 5: nobody knows how long the station was "
                         "off\n"),
-                "tx1": "Tx1 loss of signal: the line has not died: none of the 6 samples has it\n"}
+                "tx4": ("Tx4 loss of signal: transmit lane 4 lost signal at position 3, in block 2; the log has 6 samples\n"
+                        "with a signal in the sample before, at 2026-11-15T08:02:00+01:00, in UTC 2026-11-15T07:02:00Z;\n"
+                        "without a signal in this one, at 2026-11-15T08:03:00+01:00, in UTC 2026-11-15T07:03:00Z, or later\n"
+                        "before the log began it may have been without a signal too\n"
+                        "that came while the station was off or after: a power-up is seen between the two\n"
+                        "1 power-up is seen before it, just before position 3: nobody knows how long the station was off\n"),
+                "rx1": ("Rx1 loss of signal: receive lane 1 lost light at position 0, in block 1, or before the log began; "
+                        "the log has 6 samples\n"
+                        "dark in the log's first sample, at 2026-11-15T08:00:00+01:00, in UTC 2026-11-15T07:00:00Z\n"),
+                "tx1": "Tx1 loss of signal: not in any of the 6 samples\n"}
         asked = ("--period", "60", "--start", "2026-11-15T08:00")
         for line, text in said.items():
             group.same(line, (0, text, ""), zikhrodan(folder, "died", "ups.log", line, *asked, **within(folder, "Europe/Oslo")))
         rows = zikhrodan(folder, "died", "ups.log", *asked, **within(folder, "Europe/Oslo"))[1].split("\n")
         group.same("the table", [
             "ups.log: 6 samples in 3 of 3 blocks",
-            "2 power-ups are seen, the last just before position 5: nobody knows how long the station was off", "",
-            "line       name                    position      block  power-ups before  local time                 UTC",
-            "rx1        Rx1 loss of signal             -          -                 -  -                          -",
+            "2 power-ups are seen, the last just before position 5: nobody knows how long the station was off",
+            "3 of 4 receive lanes lost light; 1 of 4 transmit lanes lost signal",
+            "before the log began a lane may have been dark, or at fault, too",
+            "position 0: it was so in the log's first sample already", "",
+            "line       name                    position      block  power-ups before  0 in the sample before     1 in this one",
+            "rx1        Rx1 loss of signal             0          1                 0  -                          "
+            "2026-11-15T08:00:00+01:00",
             "rx2        Rx2 loss of signal             -          -                 -  -                          -",
-            "rx3        Rx3 loss of signal             4          2                 1  2026-11-15T08:04:00+01:00  "
-            "2026-11-15T07:04:00Z or later"],
-                   rows[:7])
+            "rx3        Rx3 loss of signal             4          2                 1  2026-11-15T08:03:00+01:00  "
+            "2026-11-15T08:04:00+01:00  or later",
+            "rx4        Rx4 loss of signal             5          3                 2  2026-11-15T08:04:00+01:00  "
+            "2026-11-15T08:05:00+01:00  or later, while the station was off or after"],
+                   rows[:11])
 
 
 def run(folder, checks):

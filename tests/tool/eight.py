@@ -13,6 +13,10 @@ PORTS = {OPERATOR: "operator", RECORDER: "recorder"}
 WORDS = ("raised", "pending", "masked")
 
 
+# In the order in which they are listed: byte by byte, and in a byte by channel, else from bit 7 down.
+SHOWN = sorted(FLAGS, key=lambda flag: (flag[0], flag[1] if re.match(r"[RT]x\d", flag[3]) else -flag[1]))
+
+
 def marks(state, port, byte, bit):
     """What a port has of a flag: raised, pending, masked; read from the bytes."""
     at = BYTES * (1 + 3 * (port - 1)) + byte - FIRST_FLAG
@@ -61,7 +65,7 @@ def as_json(folder, checks):
                 group.same(f"{number}, {port}: flags", [
                     {"name": name, "address": byte, "bit": bit, "mask_address": mask[0] if mask else None,
                      "condition": condition(state, byte, bit), **dict(zip(WORDS, marks(state, port, byte, bit)))}
-                    for byte, bit, mask, name in FLAGS], flags)
+                    for byte, bit, mask, name in SHOWN], flags)
             alone = shown(folder, state, "--json", port=RECORDER)[1]
             group.same(f"{number}: one port alone", json.loads(text)[1:], json.loads(alone))
 
@@ -88,7 +92,7 @@ def as_text(folder, checks):
         for number, state in enumerate(states()):
             for port in (None, RECORDER):
                 ports = [port] if port else list(PORTS)
-                whole = [row_of(state, ports, byte, bit, name) for byte, bit, _, name in FLAGS]
+                whole = [row_of(state, ports, byte, bit, name) for byte, bit, _, name in SHOWN]
                 telling = [row for row in whole if set(row[1:]) != {"-"}]
                 raised = [row for row in whole if any("raised" in cell for cell in row[2:])]
                 for words, expected in ((("--all",), whole), ((), telling), (("--raised",), raised)):
@@ -132,7 +136,7 @@ def unsound(folder, checks):
                     state[BYTES * (1 + 3 * (port - 1) + run) + at] |= 1 << bit
                     (status, complaint, left), text = shown(folder, bytes(state), "--json")
                     what = f"{port}, run {run}, byte {at}, bit {bit}"
-                    group.same(what, (1, True, f"zikhrodan: e.state: {PORTS[port]}: refused 3, a port's record in the state is "
+                    group.same(what, (1, True, f"zikhrodan: e.state: refused 3, the {PORTS[port]}'s record in the state is "
                                       "unsound\n"), (status, left, complaint))
                     seen = {one["zikhrodan"]["port"]: one["zikhrodan"] for one in json.loads(text)}
                     group.same(f"{what}: refused", (3, None, None), tuple(seen[PORTS[port]][key] for key in

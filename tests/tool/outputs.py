@@ -1,4 +1,5 @@
-"""outputs.py: what the tool prints cannot be written, or it has no standard input, output or error: one line, and status 2.
+"""outputs.py: what the tool prints cannot be written, or it has no standard input, output or error: one line, and status 2; no
+line where what read it has closed the pipe.
 
 Of a read that cannot be shown the flags stay in the state. The other commands' change is made, whether it is told or not.
 """
@@ -29,6 +30,11 @@ def lost(what):
 WAYS = ("Broken pipe", "No space left on device", "Bad file descriptor")
 
 
+def complaint(what):
+    """What is said of it: nothing where what reads has just gone."""
+    return "" if what == "Broken pipe" else f"zikhrodan: standard output: {what}\n"
+
+
 def without_output(run, what):
     how = lost(what)
     try:
@@ -48,7 +54,7 @@ def changing(folder, checks):
                 if not reads:
                     on_paper(kept.paper)
                 seen = without_output(lambda how=kept, words=words, **lost: how.run(*words, **lost), what)
-                group.same(what, (2, "", f"zikhrodan: standard output: {what}\n"), seen)
+                group.same(what, (2, "", complaint(what)), seen)
                 group.same(f"{what}: the state", True, kept.agrees())
                 group.same(f"{what}: other files", [], kept.others())
 
@@ -61,7 +67,7 @@ def stopping(folder, checks):
             kept.put()
             kept.paper.sample(kept.loss)
             seen = without_output(lambda how=kept, **lost: how.run("watch", "loss.rows", "calm.rows", **lost), what)
-            group.same(f"{kind.called}{what}", (2, "", f"zikhrodan: standard output: {what}\n"), seen)
+            group.same(f"{kind.called}{what}", (2, "", complaint(what)), seen)
             group.same(f"{kind.called}{what}: the state", True, kept.agrees())
 
 
@@ -70,21 +76,21 @@ def telling(folder, checks):
         for words in (("demo",), ("demo", "--eight"), ("--help",), ("sample", "--help")):
             for what in WAYS:
                 seen = without_output(lambda words=words, **lost: zikhrodan(folder, *words, **lost), what)
-                group.same(f"{words}, {what}", (2, "", f"zikhrodan: standard output: {what}\n"), seen)
+                group.same(f"{words}, {what}", (2, "", complaint(what)), seen)
     for kind in KINDS:
         with checks.group(f"{kind.called}show: standard output cannot be written: one line, status 2, no change") as group:
             kept = kind(folder)
             for words in LOOKS:
                 for what in WAYS:
                     seen = without_output(lambda how=kept, words=words, **lost: how.run("show", *words, **lost), what)
-                    group.same(f"{words}, {what}", (2, "", f"zikhrodan: standard output: {what}\n"), seen)
+                    group.same(f"{words}, {what}", (2, "", complaint(what)), seen)
             group.same("the state, and other files", (True, []), (kept.agrees(), kept.others()))
     with checks.group("demo --keep: standard output cannot be written: one line, status 2, the four files are whole") as group:
         whole = zikhrodan(folder, "demo", "--keep", "whole")
         group.same("kept", 0, whole[0])
         for number, what in enumerate(WAYS):
             seen = without_output(lambda to=f"kept{number}", **lost: zikhrodan(folder, "demo", "--keep", to, **lost), what)
-            group.same(what, (2, "", f"zikhrodan: standard output: {what}\n"), seen)
+            group.same(what, (2, "", complaint(what)), seen)
             for name in ("factory.image", "day.rows", "module.state", "day.log"):
                 group.same(name, (folder / "whole" / name).read_bytes(), (folder / f"kept{number}" / name).read_bytes())
 

@@ -35,7 +35,7 @@ NAMES = (
     ("\u00e5\u2265\U0001F6F0.log", None),
     (b"a\xff\xc3(\xe2\x82.log", f"a{BAD * 2}({BAD * 2}.log"),
     (b"\xc0\xbc\xed\xa0\x80\xf4\x90\x80\x80.log", f"{BAD * 9}.log"),
-    ("a\x01\x1b[31m\x7f\u0085\u202e.log", f"a{BAD * 2}[31m{BAD * 6}.log"),
+    ("a\x01\x1b[31m\x7f\u0085\u202e.log", f"a{BAD * 2}[31m{BAD * 3}.log"),
 )
 
 
@@ -76,9 +76,10 @@ def compare(group, folder, path, period=None):
                page.words.get("text.end", []).count("local"))
     group.same(f"{name}: 'or later' is no part of the UTC", [],
                [words for words in page.words.get("span.utc", []) if "later" in words])
-    others = f"The other {LINES - len(told.died)} lines have" if told.died else f"None of the {LINES} lines has"
+    others = (f"The other {LINES - len(told.died)} status bits are 1 in no sample." if told.died else
+              f"None of the {LINES} status bits is 1 in any sample.")
     group.same(f"{name}: the other lines", bool(told.samples) and len(told.died) < LINES,
-               f"{others}{'' if told.died else ' a'}{' no' if told.died else ''} dark sample." in notes)
+               others in notes)
     group.same(f"{name}: levels", told.ranges() if told.samples else [],
                [words for words in page.words.get("text.kind", []) if "power" in words])
 

@@ -1,5 +1,5 @@
-"""report_hardships.py: what befalls the page of a log: damage, a full disk, a place that is none, a library that gives another
-answer than the samples: one line, and a page that was there is as it was."""
+"""report_hardships.py: what befalls the page of a log: damage, a full disk, a place that is none: one line, and a page that was
+there is as it was."""
 import os
 from itertools import product
 
@@ -8,19 +8,24 @@ from bench import IMAGE
 from browser import read
 from days import day, kept, row
 from disk import another, limited
-from linked import link
-from outputs import WAYS, without_output
+from outputs import WAYS, complaint, without_output
 from station import environment, zikhrodan
 
-UNSOUND = "refused 15, the log isn't whole blocks, has fewer than are used, or is unsound"
+UNSOUND = "refused 15, block {} of the {} used is unsound"
 OLD = b"<!DOCTYPE html>old"
 OWN, NONE = " is what the page is made of, and is not replaced by it", ": No such file or directory"
-THERE = " is there already, is no page, and is not replaced"
-OTHERS = {"other.log": logs.file_of(1, []), "other.state": bytes(688), "day.rows": row() * 3, "one": b"<", "nearly": OLD[:14],
+THERE, REGULAR = " is there already, is no page, and is not replaced", ": a page is a regular file"
+NO_HTML = ": the page is HTML, and its file's name ends in .html or .htm"
+OTHERS = {"log.html": logs.file_of(1, []), "state.HTM": bytes(688), "rows.html": row() * 3, "one.htm": b"<", "nearly.html": OLD[:14],
           "other.html": b"<!doctype html>", "late.html": b"\n" + OLD}
-PLACES = {"day.log": OWN, "./day.log": OWN, "link.html": OWN, "hard.html": OWN, "module.state": OWN, "": NONE, "lost.html": NONE,
-          "no/page.html": NONE, "trial": ": a page is a regular file", "/dev/null": ": a page is a regular file",
-          "page.html/x": ": Not a directory", "notes.html": THERE} | dict.fromkeys(OTHERS, THERE)
+PLACES = {"link.html": OWN, "./hard.html": OWN, "module.html": OWN, "lost.html": NONE, "no/page.html": NONE, "folder.html": REGULAR,
+          "null.html": REGULAR, "page.html/x.html": ": Not a directory", "notes.html": THERE} | dict.fromkeys(OTHERS, THERE) | \
+         dict.fromkeys(("", ".", "x.pdf", "html", "x.html.", "x.htmlx", "page.html/x", "day.log", "module.state", "/dev/null"), NO_HTML)
+
+
+def unsound(at, run):
+    """What is said of a log whose byte at a place is changed."""
+    return UNSOUND.format((at - logs.HEAD) // logs.BLOCK + 1, len(logs.read(run)))
 
 
 def made(folder, *words, log="day.log", page="page.html", **how):
@@ -48,7 +53,7 @@ def damaged(folder, checks):
         for place, byte in product((1, 52, 90), (3, 4, 200, 500, 501, 504, 509, 511)):
             at = logs.HEAD + logs.BLOCK * place + byte
             (folder / "bad.log").write_bytes(run[:at] + bytes([run[at] ^ 1]) + run[at + 1:])
-            stays(group, folder, f"byte {at}", files, (1, "", f"zikhrodan: bad.log: {UNSOUND}\n"), made(folder, log="bad.log"))
+            stays(group, folder, f"byte {at}", files, (1, "", f"zikhrodan: bad.log: {unsound(at, run)}\n"), made(folder, log="bad.log"))
         (folder / "bad.log").write_bytes(run[:-1])
         stays(group, folder, "cut off", files, (2, "", "zikhrodan: bad.log: its length is not what its head says\n"),
               made(folder, log="bad.log"))
@@ -70,10 +75,14 @@ def places(folder, checks):
         os.symlink("day.log", folder / "link.html")
         os.link(folder / "day.log", folder / "hard.html")
         os.symlink("nowhere", folder / "lost.html")
-        os.symlink("day.rows", folder / "notes.html")
+        os.symlink("rows.html", folder / "notes.html")
+        os.symlink("module.state", folder / "module.html")
+        os.symlink("/dev/null", folder / "null.html")
+        (folder / "folder.html").mkdir()
         for name, run in OTHERS.items():
             (folder / name).write_bytes(run)
-        files = sorted([*files, "module.state", "link.html", "hard.html", "lost.html", "notes.html", *OTHERS])
+        files = sorted([*files, "module.state", "link.html", "hard.html", "lost.html", "notes.html", "module.html", "null.html",
+                        "folder.html", *OTHERS])
         held = [(folder / name).read_bytes() for name in ("day.log", "module.state", *OTHERS)]
         for page, wanted in PLACES.items():
             stays(group, folder, page, files, (2, "", f"zikhrodan: {page}{wanted}\n"),
@@ -81,7 +90,7 @@ def places(folder, checks):
             group.same(f"{page}: what it is made of, and other files", True,
                        held == [(folder / name).read_bytes() for name in ("day.log", "module.state", *OTHERS)])
         stays(group, folder, "-", files,
-              (2, "", "zikhrodan: the page goes to a file, not to standard output; one that is named - is ./-\n"),
+              (2, "", "zikhrodan: the page goes to a file, not to standard output\n"),
               made(folder, page="-"))
     with checks.group("a page that is there is replaced, also by a link to it, with the rights that it had") as group:
         os.symlink("page.html", folder / "way.html")
@@ -92,7 +101,7 @@ def places(folder, checks):
                                               (folder / "page.html").stat().st_mode & 0o777))
         (folder / "empty.html").touch()
         group.same("over an empty file", (0, ""), made(folder, page="empty.html")[::2])
-        group.same("under the name -", (0, ""), made(folder, page="./-")[::2])
+        group.same("in another case of letters", (0, ""), made(folder, page="new.HTM")[::2])
         group.same("made anew", 0, made(folder, page="new.html", umask=0o027)[0])
         group.same("its rights", 0o640, (folder / "new.html").stat().st_mode & 0o777)
         group.same("the same", True, (folder / "page.html").read_bytes() == (folder / "new.html").read_bytes())
@@ -113,7 +122,7 @@ def disks(folder, checks):
         for what in WAYS:
             (folder / "page.html").write_bytes(OLD)
             seen = without_output(lambda **lost: made(folder, **lost), what)
-            group.same(what, (2, "", f"zikhrodan: standard output: {what}\n"), seen)
+            group.same(what, (2, "", complaint(what)), seen)
             group.same(f"{what}: the page", True, (folder / "page.html").read_bytes() == whole)
     with checks.group("a log that cannot be read, or a folder that cannot be written: one line, status 2, and no page") as group:
         user = another(folder)
@@ -130,7 +139,7 @@ def modules(folder, checks):
     with checks.group("a module that the library refuses, or hours past the year 9999: one line, and no page") as group:
         files = sorted([*begun(folder), "bad.state"])
         for state, refusal, words in ((IMAGE, 1, "the state isn't 688 bytes"), (bytes(689), 1, "the state isn't 688 bytes"),
-                                      (bytes(640) + b"\xff" * 48, 3, "a port's record in the state is unsound")):
+                                      (bytes(640) + b"\xff" * 48, 3, "the operator's record in the state is unsound")):
             (folder / "bad.state").write_bytes(state)
             stays(group, folder, f"{len(state)} bytes", files, (1, "", f"zikhrodan: bad.state: refused {refusal}, {words}\n"),
                   made(folder, "--state", "bad.state"))

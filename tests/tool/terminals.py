@@ -63,7 +63,7 @@ EIGHT_TOLD = (("demo", "--eight"), ("read", "module.state", "recorder", 2, 1), (
 
 
 def coloured(kept, words, checks):
-    with checks.group(f"{kept.called}{words[0]}: colours on a terminal; none with NO_COLOR (also empty), TERM=dumb, in a pipe") \
+    with checks.group(f"{kept.called}{words[0]}: colours on a terminal; none with NO_COLOR, unless it is empty, TERM=dumb, in a pipe") \
             as group:
         kept.put()
         plain = subprocess.run(command(*words), check=True, **settled(kept.folder)).stdout.decode()
@@ -72,7 +72,9 @@ def coloured(kept, words, checks):
         shown = Terminal(kept.folder, *words).end()[1]
         group.same("on a terminal", True, COLOUR.search(shown) is not None)
         group.same("but for the colours the same text", plain, COLOUR.sub("", shown))
-        for setting in ({"NO_COLOR": "1"}, {"NO_COLOR": ""}, {"TERM": "dumb"}):
+        kept.put()
+        group.same("an empty NO_COLOR", shown, Terminal(kept.folder, *words, setting={"NO_COLOR": ""}).end()[1])
+        for setting in ({"NO_COLOR": "1"}, {"TERM": "dumb"}):
             kept.put()
             group.same(setting, (0, plain), Terminal(kept.folder, *words, setting=setting).end()[:2])
         kept.put()

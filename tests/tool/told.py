@@ -3,10 +3,10 @@ from datetime import datetime, timedelta, timezone
 from itertools import groupby
 
 import logs
-from deaths import LINES, NAMES, has, power_ups
+from deaths import LANES, LINES, LOST, NAMES, NOTHING_LOST, has, power_ups, summary
 
 LISTED = 300
-NUMBERS = ("", "One line", "Two lines", "Three lines", "Four lines")
+NAMED = 4
 # The built-in module's limits of light, Rx and Tx, from the highest down.
 FACTORY = ("3.5481", "2.8184", "0.0501", "0.0251", "3.9811", "3.1623", "0.2512", "0.1995")
 LEVELS = [(f"{side} power {channel}", first + 2 * channel) for side, first in (("Rx", 5), ("Tx", 21)) for channel in range(1, 5)]
@@ -70,31 +70,57 @@ class Told:
             position -= len(samples)
         return None
 
+    def at(self, position):
+        return f", at {self.when(position)}" if self.clock else ""
+
+    def between(self, position, bit):
+        """Between which two samples it was."""
+        _, _, before, after = LOST[bit // LANES]
+        lit = f"{before} in the sample before{self.at(position - 1)}; {after} in this one"
+        dark = f"{after} in the log\u2019s first sample, and maybe before the log began"
+        off = "; while the station was off or after" if position > 0 and position in self.power_ups else ""
+        return f"{lit if position else dark}{self.at(position)}{off}"
+
     def death(self, position, bit, others=0):
         more = f" and {others} other{'s' if others > 1 else ''}" if others else ""
-        return f"{NAMES[bit]}{more} at position {position}" + (f", at {self.when(position)}" if self.clock else "")
+        return f"{NAMES[bit]}{more} at position {position}: {self.between(position, bit)}. "
+
+    def dark_at_end(self):
+        """The lines that are dark in the last sample, by name; four of a kind as one."""
+        bits = [bit for bit, found in enumerate(self.runs) if found and found[-1][1] == len(self.samples) - 1]
+        names = []
+        for bit in bits:
+            kind = range(bit // LANES * LANES, bit // LANES * LANES + LANES)
+            if all(one in bits for one in kind):
+                names += [NAMES[bit].replace("1", "1-4", 1)] if bit % LANES == 0 else []
+            else:
+                names.append(NAMES[bit])
+        return len(bits), ", ".join(names)
+
+    def lost(self):
+        return summary(bit for _, bit in self.died)
 
     def answer(self):
         if not self.samples:
             return "There is nothing to tell: the log has no samples."
         if not self.died:
-            return f"No line died: no status bit is 1 in {'the one' if len(self.samples) == 1 else 'any'} sample."
-        dark = sum(found[-1][1] == len(self.samples) - 1 for found in self.runs if found)
-        end = f". In the last sample {('none', 'one')[dark] if dark < 2 else dark} {'is' if dark < 2 else 'are'} dark."
-        if len(self.died) >= len(NUMBERS):
-            many = "All" if len(self.died) == LINES else f"{len(self.died)} of the"
-            others = sum(position == self.died[0][0] for position, _ in self.died) - 1
-            return f"{many} {LINES} lines died. The first {'were' if others else 'was'} {self.death(*self.died[0], others)}{end}"
-        deaths = [self.death(*one) for one in self.died]
-        many = "; and ".join(["; ".join(deaths[:-1]), deaths[-1]]) if len(deaths) > 1 else deaths[0]
-        return f"{NUMBERS[len(deaths)]} died: {many}{end}"
+            return (f"{NOTHING_LOST.replace('no', 'No', 1)}: no status bit is 1 in "
+                    f"{'the one' if len(self.samples) == 1 else 'any'} sample.")
+        count, dark = self.dark_at_end()
+        end = f"there {'is' if count == 1 else 'are'}: {dark}" if count else "none is dark"
+        others = sum(position == self.died[0][0] for position, _ in self.died) - 1
+        deaths = "".join(self.death(*one) for one in self.died)
+        if len(self.died) > NAMED:
+            deaths = f"The first {'were' if others else 'was'} {self.death(*self.died[0], others)}"
+        return (f"{self.lost()}. {deaths}In the last sample {end}. "
+                "Before the log began a lane may have been dark, or at fault, too.")
 
     def deaths(self):
         """The rows of the first table, below its head."""
         rows = []
         for position, bit in self.died:
             found = self.runs[bit]
-            rows.append([NAMES[bit], str(position), str(self.number(position))] + ([self.when(position)] if self.clock else []) +
+            rows.append([NAMES[bit], str(position), str(self.number(position)), self.between(position, bit)] +
                         [str(self.before(position)), str(len(found)), str(sum(last - first + 1 for first, last in found))])
         return rows
 
@@ -146,5 +172,5 @@ class Told:
         if not self.samples:
             return f"{page}: the log has no samples\n"
         if not self.died:
-            return f"{page}: no line died\n"
-        return f"{page}: {len(self.died)} of {LINES} lines died, the first at position {self.died[0][0]}\n"
+            return f"{page}: {NOTHING_LOST}\n"
+        return f"{page}: {self.lost()}; the first at position {self.died[0][0]}\n"

@@ -27,6 +27,7 @@ import log_together
 import manual
 import outputs
 import pauses
+import plainly
 import report
 import report_drawn
 import report_hardships
@@ -38,7 +39,7 @@ import terminals
 import together
 from bench import Checks, settle
 
-PARTS = {part.__name__: part for part in (manual, stored, examples, keys, eight, outputs, disk, synced, kills, together,
+PARTS = {part.__name__: part for part in (manual, stored, examples, keys, plainly, eight, outputs, disk, synced, kills, together,
                                            pauses, links, terminals, log_kills, log_moments, log_power, log_together,
                                            log_hardships, log_outputs, log_costs, decimals, died, died_hours, report,
                                            report_whole, report_drawn, report_looks, report_hardships)}
