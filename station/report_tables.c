@@ -41,12 +41,14 @@ void put_between(FILE *page, const struct report *report, unsigned bit)
         }
         put(page, "; %s in this one", lane.after);
     } else {
-        put(page, "%s in the log\u2019s first sample, and maybe before the log began", lane.after);
+        put(page, "%s in the log\u2019s first sample", lane.after);
     }
     if (report->moments.known) {
         put(page, ", at ");
         put_moment(page, report, position);
     }
+    if (position == 0)
+        put(page, ", and maybe before the log began");
     if (after_power_up(report, position))
         put(page, "; while the station was off or after");
 }

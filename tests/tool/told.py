@@ -77,9 +77,10 @@ class Told:
         """Between which two samples it was."""
         _, _, before, after = LOST[bit // LANES]
         lit = f"{before} in the sample before{self.at(position - 1)}; {after} in this one"
-        dark = f"{after} in the log\u2019s first sample, and maybe before the log began"
+        dark = f"{after} in the log\u2019s first sample"
+        maybe = "" if position else ", and maybe before the log began"
         off = "; while the station was off or after" if position > 0 and position in self.power_ups else ""
-        return f"{lit if position else dark}{self.at(position)}{off}"
+        return f"{lit if position else dark}{self.at(position)}{maybe}{off}"
 
     def death(self, position, bit, others=0):
         more = f" and {others} other{'s' if others > 1 else ''}" if others else ""
