@@ -115,7 +115,7 @@ static int demo(int given, char **words)
     bool eight = false;
     const struct option options[] = {{.name = "--keep", .value = &folder}, {.name = "--eight", .flag = &eight}, {0}};
 
-    if (!words_in(&given, words, options, DEMO.usage, 0, 0))
+    if (!words_in(&given, words, options, &DEMO, 0, 0))
         return USAGE_OR_FILE;
     int status = folder ? demo_keeps(folder, eight) : DONE;
     status = status ? status : eight ? demo_eight() : demo_four();

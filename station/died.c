@@ -64,7 +64,7 @@ static int died(int given, char **words)
                                      {NULL, NULL, NULL}};
     uint64_t bit = 0;
 
-    if (!words_in(&given, words, options, DIED.usage, 1, 2) || (given > 1 && !line_in(words[1], &bit)) ||
+    if (!words_in(&given, words, options, &DIED, 1, 2) || (given > 1 && !line_in(words[1], &bit)) ||
         !moments_in(period, start, &view.moments))
         return USAGE_OR_FILE;
     int status = ask_all(&view, words[0], given == 1, bit);

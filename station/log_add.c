@@ -11,7 +11,7 @@ static int log_add_command(int given, char **words)
     static const struct option options[] = {{0}};
     static struct feed feed = {.log = {.fd = -1}};
 
-    if (!words_in(&given, words, options, LOG_ADD.usage, 1, INT_MAX))
+    if (!words_in(&given, words, options, &LOG_ADD, 1, INT_MAX))
         return USAGE_OR_FILE;
     feed.log.name = words[0];
     return feed_all(&feed, words + 1, given - 1);

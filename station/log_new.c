@@ -14,7 +14,7 @@ static int log_new(int given, char **words)
     static const struct option options[] = {{0}};
     uint64_t blocks;
 
-    if (!words_in(&given, words, options, LOG_NEW.usage, 2, 2) || !number_in(words[1], "the number of blocks", &blocks))
+    if (!words_in(&given, words, options, &LOG_NEW, 2, 2) || !number_in(words[1], "the number of blocks", &blocks))
         return USAGE_OR_FILE;
     if (blocks < 1 || blocks > MOST_BLOCKS)
         return fail("the number of blocks '%s' is not 1 to %d", words[1], MOST_BLOCKS);

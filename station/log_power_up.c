@@ -12,7 +12,7 @@ static int log_power_up_command(int given, char **words)
 {
     static const struct option options[] = {{0}};
 
-    if (!words_in(&given, words, options, LOG_POWER_UP.usage, 1, 1))
+    if (!words_in(&given, words, options, &LOG_POWER_UP, 1, 1))
         return USAGE_OR_FILE;
     struct logfile log = {.name = words[0], .fd = -1};
     int status = log_begin(&log);

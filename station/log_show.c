@@ -64,7 +64,7 @@ static int log_show(int given, char **words)
                                      {"--wide", NULL, &wanted.wide}, {"--json", NULL, &wanted.json}, {"--csv", NULL, &wanted.csv},
                                      {NULL, NULL, NULL}};
 
-    if (!words_in(&given, words, options, LOG_SHOW.usage, 1, 1))
+    if (!words_in(&given, words, options, &LOG_SHOW, 1, 1))
         return USAGE_OR_FILE;
     if (wanted.wide + wanted.json + wanted.csv > 1)
         return fail("--wide, --json and --csv are three forms: one at a time");

@@ -131,7 +131,7 @@ static int report_log(int given, char **words)
                                      {"--start", &wanted.start, NULL}, {"--state", &wanted.state, NULL}, {NULL, NULL, NULL}};
     char *path = NULL;
 
-    if (!words_in(&given, words, options, REPORT.usage, 1, 1) || !moments_in(wanted.period, wanted.start, &report.moments))
+    if (!words_in(&given, words, options, &REPORT, 1, 1) || !moments_in(wanted.period, wanted.start, &report.moments))
         return USAGE_OR_FILE;
     if (!wanted.page)
         return fail("-o is missing, and after it where the page goes: a file such as day.html");

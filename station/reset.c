@@ -28,7 +28,7 @@ static int reset(int given, char **words)
     uint8_t image[IMAGE_ROOM];
     size_t image_len;
 
-    if (!words_in(&given, words, options, RESET.usage, 1, 2))
+    if (!words_in(&given, words, options, &RESET, 1, 2))
         return USAGE_OR_FILE;
     const char *name = given == 2 ? words[1] : NULL;
     if (eight && name)

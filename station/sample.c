@@ -10,7 +10,7 @@ static int sample(int given, char **words)
     static struct feed feed = {.log = {.fd = -1}};
     const struct option options[] = {{.name = "--log", .value = &feed.log.name}, {0}};
 
-    if (!words_in(&given, words, options, SAMPLE.usage, 1, INT_MAX))
+    if (!words_in(&given, words, options, &SAMPLE, 1, INT_MAX))
         return USAGE_OR_FILE;
     feed.name = words[0];
     return feed_all(&feed, words + 1, given - 1);

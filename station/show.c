@@ -48,7 +48,7 @@ static int show(int given, char **words)
                                      {"--raised", NULL, &wanted.raised}, {"--all", NULL, &wanted.all},
                                      {"--json", NULL, &wanted.json}, {"--hex", NULL, &wanted.hex}, {NULL, NULL, NULL}};
 
-    if (!words_in(&given, words, options, SHOW.usage, 1, 1))
+    if (!words_in(&given, words, options, &SHOW, 1, 1))
         return USAGE_OR_FILE;
     if (wanted.raised + wanted.all + wanted.json + wanted.hex > 1)
         return fail("--raised, --all, --json and --hex are four forms: one at a time");

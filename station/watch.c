@@ -88,7 +88,7 @@ static int watch(int given, char **words)
     static const struct option options[] = {{0}};
     static struct feed feed = {.log = {.fd = -1}, .tell = tell};
 
-    if (!words_in(&given, words, options, WATCH.usage, 1, INT_MAX))
+    if (!words_in(&given, words, options, &WATCH, 1, INT_MAX))
         return USAGE_OR_FILE;
     feed.name = words[0];
     return feed_all(&feed, words + 1, given - 1);

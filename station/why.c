@@ -6,7 +6,7 @@
 #include <inttypes.h>
 #include <stdio.h>
 
-enum { BLOCK = ZIKHRODAN_BLOCK_LEN, LOWER_END = 128, ADDRESSES = 256, ROOM = 160 };
+enum { BLOCK = ZIKHRODAN_BLOCK_LEN, ADDRESSES = 256, ROOM = 160 };
 static char text[ROOM];
 
 const char *why_port(const struct kind *kind, uint32_t refusal, uint64_t port)

@@ -1,7 +1,7 @@
 /* words.c: see words.h. */
 #include "words.h"
+#include "command.h"
 #include "names.h"
-#include "say.h"
 
 #include <errno.h>
 #include <stdlib.h>
@@ -32,8 +32,23 @@ bool port_in(const char *word, uint64_t *port)
     return false;
 }
 
+/* Says that an option's word is missing: "SECONDS", where the usage or the help has "--period SECONDS". */
+static void say_option(const char *name, const struct command *command)
+{
+    const char *const texts[] = {command->usage, command->help};
+    size_t len = strlen(name);
+
+    for (unsigned i = 0; i < 2; i++)
+        for (const char *at = strstr(texts[i], name); at; at = strstr(at + len, name))
+            if (at[len] == ' ' && at[len + 1] >= 'A' && at[len + 1] <= 'Z') {
+                fail("%.*s is missing after %s (--help has an example)", (int)strcspn(at + len + 1, " ]\n"), at + len + 1, name);
+                return;
+            }
+    fail("%s wants a word after it", name);
+}
+
 /* Takes one option, which stands at `words[at]`; gives how many words it has, or 0 with an error said. */
-static int option_in(int given, char **words, int at, const struct option *options)
+static int option_in(int given, char **words, int at, const struct option *options, const struct command *command)
 {
     for (const struct option *o = options; o->name; o++) {
         if (strcmp(words[at], o->name) != 0)
@@ -46,7 +61,7 @@ static int option_in(int given, char **words, int at, const struct option *optio
             *o->value = words[at + 1];
             return 2;
         }
-        fail("%s wants a word after it", o->name);
+        say_option(o->name, command);
         return 0;
     }
     fail("there is no option '%s' (--help says which there are)", words[at]);
@@ -84,7 +99,7 @@ static void say_missing(const char *usage, int given)
     }
 }
 
-bool words_in(int *given, char **words, const struct option *options, const char *usage, int least, int most)
+bool words_in(int *given, char **words, const struct option *options, const struct command *command, int least, int most)
 {
     int left = 0, at = 0;
 
@@ -93,7 +108,7 @@ bool words_in(int *given, char **words, const struct option *options, const char
             while (++at < *given)
                 words[left++] = words[at];
         } else if (is_option(words[at], options)) {
-            int taken = option_in(*given, words, at, options);
+            int taken = option_in(*given, words, at, options, command);
             if (taken == 0)
                 return false;
             at += taken;
@@ -103,7 +118,7 @@ bool words_in(int *given, char **words, const struct option *options, const char
     }
     *given = left;
     if (left < least)
-        say_missing(usage, left);
+        say_missing(command->usage, left);
     else if (left > most)
         fail("'%s' is a word too many (--help says which there are)", words[most]);
     return left >= least && left <= most;

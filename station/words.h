@@ -18,8 +18,9 @@ struct option {
     bool *flag;         /* or what becomes true */
 };
 
-/* Takes the options out, up to a word "--"; false, with an error said, if then not `least` to `most` words are left. Which one is
- * missing the command's usage says. */
-bool words_in(int *given, char **words, const struct option *options, const char *usage, int least, int most);
+/* Takes the options out, up to a word "--"; false, with an error said, if then not `least` to `most` words are left, or an option's
+ * is missing. What the missing word is called the command's usage and help say. */
+struct command;
+bool words_in(int *given, char **words, const struct option *options, const struct command *command, int least, int most);
 
 #endif

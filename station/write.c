@@ -84,7 +84,7 @@ static int write_command(int given, char **words)
     uint64_t port, address;
     uint8_t bytes[MOST_BYTES];
 
-    if (!words_in(&given, words, options, WRITE.usage, 4, 3 + MOST_BYTES) || !port_in(words[1], &port) ||
+    if (!words_in(&given, words, options, &WRITE, 4, 3 + MOST_BYTES) || !port_in(words[1], &port) ||
         !number_in(words[2], "the address", &address) || !bytes_in(words + 3, given - 3, bytes))
         return USAGE_OR_FILE;
     int status = state_open(&state, words[0], NULL, IS_ERROR);

@@ -246,6 +246,11 @@ def missing(folder, checks):
             for given in range(len(plain)):
                 line = f"zikhrodan: {plain[given].removesuffix('..')} is missing (--help has an example)\n"
                 group.same(f"{words}, {given}", (2, "", line), zikhrodan(folder, *words, *["1"] * given))
+    with checks.group("so is the word that an option lacks, each option's") as group:
+        for words in all_commands():
+            for option, value in re.findall(r"(?<![\w-])(--?[a-z]+) ([A-Z][\w.]*)", helped([*words, "--help"]).split("\nExamples")[0]):
+                group.same(f"{words}, {option}", (2, "", f"zikhrodan: {value} is missing after {option} (--help has an example)\n"),
+                           zikhrodan(folder, *words, option))
     with checks.group("demo --keep into a folder that has its files: one line at once, and nothing else") as group:
         for words in ((), ("--eight",)):
             group.same(words, 0, zikhrodan(folder, "demo", *words, "--keep", "kept")[0])
