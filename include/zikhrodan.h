@@ -46,7 +46,7 @@ enum zikhrodan_refusal {
     ZIKHRODAN_STATE_SIZE = 1,
     ZIKHRODAN_NO_SUCH_PORT = 2,
     ZIKHRODAN_UNSOUND_RECORD = 3,
-    ZIKHRODAN_COUNT = 4,
+    ZIKHRODAN_TRANSFER_SIZE = 4,
     ZIKHRODAN_RANGE = 5,
     ZIKHRODAN_OUTPUT_SHORT = 6,
     ZIKHRODAN_NOT_ITS_OWN = 7,
@@ -69,7 +69,7 @@ static inline const char *zikhrodan_words(uint32_t refusal)
     case ZIKHRODAN_STATE_SIZE: return "the state isn't 688 bytes";
     case ZIKHRODAN_NO_SUCH_PORT: return "the port is neither 1 (operator) nor 2 (recorder)";
     case ZIKHRODAN_UNSOUND_RECORD: return "a port's record in the state is unsound";
-    case ZIKHRODAN_COUNT: return "a read is of 1 to 128 bytes, a write of 1 to 4";
+    case ZIKHRODAN_TRANSFER_SIZE: return "a read is of 1 to 128 bytes, a write of 1 to 4";
     case ZIKHRODAN_RANGE: return "it ends past address 255, or it is a write across addresses 127 and 128";
     case ZIKHRODAN_OUTPUT_SHORT: return "the output memory is shorter than the read";
     case ZIKHRODAN_NOT_ITS_OWN: return "a recorder's write touches a byte not its own";

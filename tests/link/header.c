@@ -63,7 +63,7 @@ static void names(void)
     check("8", zikhrodan_sample(state, sizeof state, sample, sizeof sample) == ZIKHRODAN_SAMPLE_SIZE);
     check("2", zikhrodan_read(state, sizeof state, ZIKHRODAN_RECORDER + 1, 0, 1, out, sizeof out) == ZIKHRODAN_NO_SUCH_PORT);
     check("read", zikhrodan_read(state, sizeof state, ZIKHRODAN_OPERATOR, 0, ZIKHRODAN_READ_MAX, out, sizeof out) == 0);
-    check("4", zikhrodan_read(state, sizeof state, ZIKHRODAN_OPERATOR, 0, ZIKHRODAN_READ_MAX + 1, out, sizeof out) == ZIKHRODAN_COUNT);
+    check("4", zikhrodan_read(state, sizeof state, ZIKHRODAN_OPERATOR, 0, ZIKHRODAN_READ_MAX + 1, out, sizeof out) == ZIKHRODAN_TRANSFER_SIZE);
     check("5", zikhrodan_read(state, sizeof state, ZIKHRODAN_OPERATOR, 255, 2, out, sizeof out) == ZIKHRODAN_RANGE);
     check("6", zikhrodan_read(state, sizeof state, ZIKHRODAN_OPERATOR, 0, 2, out, 1) == ZIKHRODAN_OUTPUT_SHORT);
     check("write", zikhrodan_write(state, sizeof state, ZIKHRODAN_OPERATOR, 86, out, ZIKHRODAN_WRITE_MAX) == 0);
