@@ -20,17 +20,26 @@
 extern "C" {
 #endif
 
+/* An answer has the refusal in it: a compiler that can warns where one is dropped. */
+#if (defined __cplusplus && __cplusplus >= 201703L) || (defined __STDC_VERSION__ && __STDC_VERSION__ > 201710L)
+#define ZIKHRODAN_ANSWER [[nodiscard]]
+#elif defined __GNUC__
+#define ZIKHRODAN_ANSWER __attribute__((warn_unused_result))
+#else
+#define ZIKHRODAN_ANSWER
+#endif
+
 /* ---- sizes and numbers */
 
 enum {
-    ZIKHRODAN_STATE_LEN = 688,  /* a module's state */
-    ZIKHRODAN_IMAGE_LEN = 640,  /* a factory image: lower memory and pages 00h to 03h */
-    ZIKHRODAN_SAMPLE_LEN = 31,  /* three status bytes and fourteen numbers of two bytes, high byte first */
+    ZIKHRODAN_STATE_LEN = 688, /* a module's state */
+    ZIKHRODAN_IMAGE_LEN = 640, /* a factory image: lower memory and pages 00h to 03h */
+    ZIKHRODAN_SAMPLE_LEN = 31, /* three status bytes and fourteen numbers of two bytes, high byte first */
     ZIKHRODAN_PAGE_LEN = 128,
     ZIKHRODAN_PAGE_00_AT = 128, /* where page 00h starts, in a state and in an image */
     ZIKHRODAN_READ_MAX = 128,
     ZIKHRODAN_WRITE_MAX = 4,
-    ZIKHRODAN_BLOCK_LEN = 512,  /* a block of a log */
+    ZIKHRODAN_BLOCK_LEN = 512, /* a block of a log */
     ZIKHRODAN_BLOCK_SAMPLES = 16
 };
 
@@ -40,7 +49,7 @@ enum {
     ZIKHRODAN_RECORDER = 2
 };
 
-/* Why a call refuses. The lowest that applies is given, but 12 comes before 11, and 15 before 14. */
+/* Why a call refuses. The lowest that applies is given, but 12 comes before 11, and 15 before 14. 16 is none. */
 enum zikhrodan_refusal {
     ZIKHRODAN_ACCEPTED = 0,
     ZIKHRODAN_STATE_SIZE = 1,
@@ -94,17 +103,19 @@ static inline const char *zikhrodan_words(uint32_t refusal)
  * the count of an accepted call isn't 0. */
 
 /* Resets the module to a factory image; page 02h keeps its bytes. Refuses 1, 9, 10. */
-uint32_t zikhrodan_reset(uint8_t *state, size_t state_len, const uint8_t *image, size_t image_len);
+ZIKHRODAN_ANSWER uint32_t zikhrodan_reset(uint8_t *state, size_t state_len, const uint8_t *image, size_t image_len);
 
 /* Takes a sample: stores its numbers and raises the flags of its conditions for both ports. Refuses 1, 3 (either record), 8. */
-uint32_t zikhrodan_sample(uint8_t *state, size_t state_len, const uint8_t *sample, size_t sample_len);
+ZIKHRODAN_ANSWER uint32_t zikhrodan_sample(uint8_t *state, size_t state_len, const uint8_t *sample, size_t sample_len);
 
 /* Reads `count` bytes at `address` (0 to 127 lower memory, 128 to 255 the port's selected page) into the front of `out`, as the port
  * sees them before the call; the flag bytes read become 0 for this port alone. The rest of `out` stays. Refuses 1 to 6. */
-uint32_t zikhrodan_read(uint8_t *state, size_t state_len, uint64_t port, uint64_t address, uint64_t count, uint8_t *out, size_t out_len);
+ZIKHRODAN_ANSWER uint32_t zikhrodan_read(uint8_t *state, size_t state_len, uint64_t port, uint64_t address, uint64_t count,
+                                         uint8_t *out, size_t out_len);
 
 /* Writes `data` at `address`, the bits that the port may write; other bits stay and the write is still accepted. Refuses 1 to 5, 7. */
-uint32_t zikhrodan_write(uint8_t *state, size_t state_len, uint64_t port, uint64_t address, const uint8_t *data, size_t data_len);
+ZIKHRODAN_ANSWER uint32_t zikhrodan_write(uint8_t *state, size_t state_len, uint64_t port, uint64_t address, const uint8_t *data,
+                                          size_t data_len);
 
 /* Bits `first` to `first` + 7 of an answer. */
 static inline uint32_t zikhrodan_bits(uint32_t answer, unsigned first)
@@ -149,7 +160,8 @@ enum zikhrodan_field {
  * bytes, a state's from ZIKHRODAN_PAGE_00_AT on; `factory` likewise an image's. A page of another length is an unsound page.
  * Answer: bits 0-7 the refusal, 12 or 11; bits 8-15 the page, 1 live, 2 factory; bits 16-23 where the field starts in that page;
  * bits 24-31 its length without trailing blanks (the OUI whole). Page, start and length are 0 where it is refused. */
-uint32_t zikhrodan_identity(const uint8_t *live, size_t live_len, const uint8_t *factory, size_t factory_len, uint64_t field);
+ZIKHRODAN_ANSWER uint32_t zikhrodan_identity(const uint8_t *live, size_t live_len, const uint8_t *factory, size_t factory_len,
+                                             uint64_t field);
 
 enum zikhrodan_page {
     ZIKHRODAN_NO_PAGE = 0,
@@ -192,7 +204,7 @@ enum zikhrodan_kind {
 };
 
 /* The kind of a monitor's value. Answer: bits 0-7 the refusal, 1 or 13; bits 8-15 the kind; the rest is 0. */
-uint32_t zikhrodan_monitor_kind(const uint8_t *state, size_t state_len, uint64_t number);
+ZIKHRODAN_ANSWER uint32_t zikhrodan_monitor_kind(const uint8_t *state, size_t state_len, uint64_t number);
 
 /* The value itself, in the unit of that kind; 0.0 where the kind is 0. */
 double zikhrodan_monitor_value(const uint8_t *state, size_t state_len, uint64_t number);
@@ -221,7 +233,7 @@ enum zikhrodan_which {
 };
 
 /* Why a quantity's limits are refused, 1 or 13; 0 where they are given. */
-uint32_t zikhrodan_limits_refusal(const uint8_t *state, size_t state_len, uint64_t quantity);
+ZIKHRODAN_ANSWER uint32_t zikhrodan_limits_refusal(const uint8_t *state, size_t state_len, uint64_t quantity);
 
 /* One limit of a quantity; 0.0 where the limits are refused, or for any other `which`. */
 double zikhrodan_limit(const uint8_t *state, size_t state_len, uint64_t quantity, uint64_t which);
@@ -240,20 +252,20 @@ double zikhrodan_limit(const uint8_t *state, size_t state_len, uint64_t quantity
 
 /* Adds a sample, in the last used block if that has room, else in a new one. The value is `used` after the call. Refuses 8, 15, 14,
  * in that order. */
-uint64_t zikhrodan_log_add(uint8_t *log, size_t log_len, uint64_t used, const uint8_t *sample, size_t sample_len);
+ZIKHRODAN_ANSWER uint64_t zikhrodan_log_add(uint8_t *log, size_t log_len, uint64_t used, const uint8_t *sample, size_t sample_len);
 
 /* Opens a new block, as a module that was powered up does. The value is `used` after the call. Refuses 15, 14, in that order. */
-uint64_t zikhrodan_log_power_up(uint8_t *log, size_t log_len, uint64_t used);
+ZIKHRODAN_ANSWER uint64_t zikhrodan_log_power_up(uint8_t *log, size_t log_len, uint64_t used);
 
 /* Where the sample at a position, from 0 on, starts in the log; it is 31 bytes. Refuses 15, 17, in that order. */
-uint64_t zikhrodan_log_sample(const uint8_t *log, size_t log_len, uint64_t used, uint64_t position);
+ZIKHRODAN_ANSWER uint64_t zikhrodan_log_sample(const uint8_t *log, size_t log_len, uint64_t used, uint64_t position);
 
 /* The first sample with a status bit, 0 to 23: bit `bit` % 8 of its byte `bit` / 8. The value is the sample's position plus 1, or 0
  * for none. Refuses 15 for memory that isn't whole blocks, a `used` that is too large or a used block's count above 16, then 17 for
  * a bit above 23. A block whose summary excludes the bit is passed over, by three of its bytes. On a sound log the answer is what
  * reading every sample would give. A sound log is not asked for: on another the answer is fixed too, but a damaged summary can hide
  * a sample. */
-uint64_t zikhrodan_log_first(const uint8_t *log, size_t log_len, uint64_t used, uint64_t bit);
+ZIKHRODAN_ANSWER uint64_t zikhrodan_log_first(const uint8_t *log, size_t log_len, uint64_t used, uint64_t bit);
 
 static inline enum zikhrodan_refusal zikhrodan_log_refusal(uint64_t answer)
 {
@@ -267,10 +279,10 @@ static inline uint64_t zikhrodan_log_value(uint64_t answer)
 
 /* ---- the eight-channel module
  *
- * QSFP-DD revision 2.0's flags and masks with two ports (document 02, Ask 6; docs/EIGHT.md has the map). Its state is 98 bytes that the
- * caller lends: the conditions of the last accepted sample, then the operator's record, then the recorder's. Any 98 bytes may be
- * passed; zikhrodan_dd_reset makes a state of them. The answers are those of the four calls above. A count is the number of pending
- * bits that the port's masks let through: a bit is pending from the onset of its condition until the port reads its flag byte. */
+ * QSFP-DD revision 2.0's flags and masks with two ports; docs/EIGHT.md has the map. Its state is 98 bytes that the caller lends: the
+ * conditions of the last accepted sample, then the operator's record, then the recorder's. Any 98 bytes may be passed;
+ * zikhrodan_dd_reset makes a state of them. The answers are those of the four calls above. A count is the number of pending bits that
+ * the port's masks let through: a bit is pending from the onset of its condition until the port reads its flag byte. */
 
 enum {
     ZIKHRODAN_DD_STATE_LEN = 98,
@@ -333,20 +345,22 @@ static inline const char *zikhrodan_dd_words(uint32_t refusal)
 }
 
 /* Resets the module: all 98 bytes become 0. Refuses 1. */
-uint32_t zikhrodan_dd_reset(uint8_t *state, size_t state_len);
+ZIKHRODAN_ANSWER uint32_t zikhrodan_dd_reset(uint8_t *state, size_t state_len);
 
 /* Takes a sample: raises the flags of its conditions for both ports, and where a condition has its onset (it stands here, and did not
  * in the accepted sample before) marks the bit as pending for both. Bits that are no flag are ignored. Refuses 1, 3 (either record), 8. */
-uint32_t zikhrodan_dd_sample(uint8_t *state, size_t state_len, const uint8_t *sample, size_t sample_len);
+ZIKHRODAN_ANSWER uint32_t zikhrodan_dd_sample(uint8_t *state, size_t state_len, const uint8_t *sample, size_t sample_len);
 
 /* Reads `count` bytes at `address`, 0 to 127, into the front of `out`, as the port sees them before the call: its flags at 3 to 16, its
  * masks at 102 to 115, 0 elsewhere. The flag bytes read, and their pending bits, become 0 for this port alone. The rest of `out`
  * stays. Refuses 1 to 6. */
-uint32_t zikhrodan_dd_read(uint8_t *state, size_t state_len, uint64_t port, uint64_t address, uint64_t count, uint8_t *out, size_t out_len);
+ZIKHRODAN_ANSWER uint32_t zikhrodan_dd_read(uint8_t *state, size_t state_len, uint64_t port, uint64_t address, uint64_t count,
+                                            uint8_t *out, size_t out_len);
 
 /* Writes `data` at `address`: the mask bits take it, all other bits stay, and the write is still accepted. The recorder may write 102
  * to 115 alone. Refuses 1 to 5, 7. */
-uint32_t zikhrodan_dd_write(uint8_t *state, size_t state_len, uint64_t port, uint64_t address, const uint8_t *data, size_t data_len);
+ZIKHRODAN_ANSWER uint32_t zikhrodan_dd_write(uint8_t *state, size_t state_len, uint64_t port, uint64_t address,
+                                             const uint8_t *data, size_t data_len);
 
 #ifdef __cplusplus
 }

@@ -49,7 +49,7 @@ struct port_view ask_port(const struct state *state, uint64_t port)
         return view;
     view.count = zikhrodan_count(answer);
     view.page = page;
-    read_of(&copy, port, FLAGS_AT, state->kind->flag_bytes, view.flags);
+    view.refusal = zikhrodan_refusal_of(read_of(&copy, port, FLAGS_AT, state->kind->flag_bytes, view.flags));
     memcpy(view.pending, state->bytes + state->kind->pending_at + behind(state, port), state->kind->flag_bytes);
     return view;
 }
@@ -68,8 +68,8 @@ bool ask_mask(const struct kind *kind, uint64_t mask_address, struct place at)
 {
     struct state fresh = {.kind = kind, .len = kind->state_len};
 
-    kind->write(fresh.bytes, fresh.len, ZIKHRODAN_OPERATOR, mask_address, &(uint8_t){0xff}, 1);
-    return held_back(&fresh, ZIKHRODAN_OPERATOR, at);
+    uint32_t answer = kind->write(fresh.bytes, fresh.len, ZIKHRODAN_OPERATOR, mask_address, &(uint8_t){0xff}, 1);
+    return zikhrodan_refusal_of(answer) == ZIKHRODAN_ACCEPTED && held_back(&fresh, ZIKHRODAN_OPERATOR, at);
 }
 
 /* Where the fourteen numbers of a sample are stored, two bytes each. */
@@ -85,7 +85,7 @@ void ask_outside(const struct state *state, uint8_t outside[MOST_FLAG_BYTES])
     for (unsigned m = 0; m < MONITORS; m++)
         memcpy(sample + 3 + 2 * m, state->bytes + STORED_AT[m], 2);
     if (zikhrodan_refusal_of(zikhrodan_sample(copy.bytes, copy.len, sample, sizeof sample)) == ZIKHRODAN_ACCEPTED)
-        read_of(&copy, ZIKHRODAN_OPERATOR, FLAGS_AT, FLAG_BYTES, outside);
+        (void)read_of(&copy, ZIKHRODAN_OPERATOR, FLAGS_AT, FLAG_BYTES, outside); /* a refused read would leave it at 0 */
 }
 
 /* Zeros have the sum 0, so that a part of zeros has its check code right. */
