@@ -7,9 +7,9 @@
  *   - each pointer is good for as many bytes as the length beside it says (for none where that is 0; it may then be null);
  *   - memory lent to one call does not overlap, and nobody else touches it during the call.
  *
- * What each call does is document 01's, of a log document 02's (Ask 1, Ask 9), of the eight-channel module its Ask 6; it is proved
- * for every input: docs/EXAMINER.md says of what, and what is assumed. The helpers and names of this header are not proved: they
- * take an answer apart, or name a number, and decide nothing. */
+ * The rules of each call, register and log block stand in docs/REGISTERS.md, of the eight-channel module in docs/EIGHT.md. They are
+ * proved of the library for every input: docs/EXAMINER.md says how, and what is assumed. The helpers and names of this header are not
+ * proved: they take an answer apart, or name a number, and decide nothing. */
 #ifndef ZIKHRODAN_H
 #define ZIKHRODAN_H
 
@@ -32,11 +32,10 @@ extern "C" {
 /* ---- sizes and numbers */
 
 enum {
-    ZIKHRODAN_STATE_LEN = 688, /* a module's state */
+    ZIKHRODAN_STATE_LEN = 688, /* a module's state; it is to grow: docs/REGISTERS.md */
     ZIKHRODAN_IMAGE_LEN = 640, /* a factory image: lower memory and pages 00h to 03h */
     ZIKHRODAN_SAMPLE_LEN = 31, /* three status bytes and fourteen numbers of two bytes, high byte first */
     ZIKHRODAN_PAGE_LEN = 128,
-    ZIKHRODAN_PAGE_00_AT = 128, /* where page 00h starts, in a state and in an image */
     ZIKHRODAN_READ_MAX = 128,
     ZIKHRODAN_WRITE_MAX = 4,
     ZIKHRODAN_BLOCK_LEN = 512, /* a block of a log */
@@ -145,6 +144,140 @@ static inline unsigned zikhrodan_recorder_count(uint32_t answer)
     return zikhrodan_bits(answer, 16);
 }
 
+/* ---- where things lie: names for numbers of docs/REGISTERS.md */
+
+/* Places in a state; the pages stand at the same places of an image. */
+enum {
+    ZIKHRODAN_PAGE_00_AT = 128,
+    ZIKHRODAN_PAGE_01_AT = 256,
+    ZIKHRODAN_PAGE_02_AT = 384,
+    ZIKHRODAN_PAGE_03_AT = 512,
+    ZIKHRODAN_OPERATOR_AT = 640,     /* where the operator's record starts, */
+    ZIKHRODAN_RECORDER_AT = 664,     /* and the recorder's; */
+    ZIKHRODAN_RECORD_LEN = 24,
+    ZIKHRODAN_FLAGS_IN = 0,          /* in a record the flags of 3 to 14, */
+    ZIKHRODAN_MASKS_IN = 12,         /* the masks of 100 to 104, */
+    ZIKHRODAN_PAGE_03_MASKS_IN = 17, /* those of page 03h 242 to 247, */
+    ZIKHRODAN_SELECTED_IN = 23       /* and the selected page */
+};
+
+/* Host addresses of lower memory. Numbers are two bytes, high byte first. */
+enum zikhrodan_register {
+    ZIKHRODAN_REG_IDENTIFIER = 0,
+    ZIKHRODAN_REG_STATUS = 2,
+    ZIKHRODAN_REG_LOS_FLAGS = 3, /* flags: the port's own; a read clears them */
+    ZIKHRODAN_REG_FAULT_FLAGS = 4,
+    ZIKHRODAN_REG_LOL_FLAGS = 5,
+    ZIKHRODAN_REG_TEMPERATURE_FLAGS = 6,
+    ZIKHRODAN_REG_SUPPLY_FLAGS = 7,
+    ZIKHRODAN_REG_RX_POWER_12_FLAGS = 9,
+    ZIKHRODAN_REG_RX_POWER_34_FLAGS = 10,
+    ZIKHRODAN_REG_TX_BIAS_12_FLAGS = 11,
+    ZIKHRODAN_REG_TX_BIAS_34_FLAGS = 12,
+    ZIKHRODAN_REG_TX_POWER_12_FLAGS = 13,
+    ZIKHRODAN_REG_TX_POWER_34_FLAGS = 14,
+    ZIKHRODAN_REG_TEMPERATURE = 22,
+    ZIKHRODAN_REG_SUPPLY = 26,
+    ZIKHRODAN_REG_RX_POWER_1 = 34, /* to 4: 34 to 41 */
+    ZIKHRODAN_REG_TX_BIAS_1 = 42,  /* to 4: 42 to 49 */
+    ZIKHRODAN_REG_TX_POWER_1 = 50, /* to 4: 50 to 57 */
+    ZIKHRODAN_REG_TX_DISABLE = 86, /* controls: both ports see them, the operator writes them */
+    ZIKHRODAN_REG_RX_RATE_SELECT = 87,
+    ZIKHRODAN_REG_TX_RATE_SELECT = 88,
+    ZIKHRODAN_REG_POWER = 93,
+    ZIKHRODAN_REG_CDR = 98,
+    ZIKHRODAN_REG_LOS_MASKS = 100, /* masks: the port's own; a 1 holds the flag of its bit back */
+    ZIKHRODAN_REG_FAULT_MASKS = 101,
+    ZIKHRODAN_REG_LOL_MASKS = 102,
+    ZIKHRODAN_REG_TEMPERATURE_MASKS = 103,
+    ZIKHRODAN_REG_SUPPLY_MASKS = 104,
+    ZIKHRODAN_REG_PAGE_SELECT = 127 /* the port's own */
+};
+
+/* Of page 00h. */
+enum zikhrodan_page_00 {
+    ZIKHRODAN_REG_VENDOR_NAME = 148,
+    ZIKHRODAN_REG_VENDOR_OUI = 165,
+    ZIKHRODAN_REG_PART_NUMBER = 168,
+    ZIKHRODAN_REG_REVISION = 184,
+    ZIKHRODAN_REG_BASE_CODE = 191,
+    ZIKHRODAN_REG_OPTIONS = 195,
+    ZIKHRODAN_REG_SERIAL_NUMBER = 196,
+    ZIKHRODAN_REG_DATE_CODE = 212,
+    ZIKHRODAN_REG_DIAGNOSTICS = 220,
+    ZIKHRODAN_REG_EXTENDED_CODE = 223
+};
+
+/* Of page 03h. A quantity's limits are four numbers, in the order of enum zikhrodan_which. */
+enum zikhrodan_page_03 {
+    ZIKHRODAN_REG_TEMPERATURE_LIMITS = 128,
+    ZIKHRODAN_REG_SUPPLY_LIMITS = 144,
+    ZIKHRODAN_REG_RX_POWER_LIMITS = 176,
+    ZIKHRODAN_REG_TX_BIAS_LIMITS = 184,
+    ZIKHRODAN_REG_TX_POWER_LIMITS = 192,
+    ZIKHRODAN_REG_TX_EQUALISER = 234, /* controls, as those of lower memory */
+    ZIKHRODAN_REG_RX_EMPHASIS = 236,
+    ZIKHRODAN_REG_RX_AMPLITUDE = 238,
+    ZIKHRODAN_REG_SQUELCH_DISABLE = 240,
+    ZIKHRODAN_REG_OUTPUT_DISABLE = 241,
+    ZIKHRODAN_REG_RX_POWER_12_MASKS = 242, /* masks, as those of lower memory */
+    ZIKHRODAN_REG_RX_POWER_34_MASKS = 243,
+    ZIKHRODAN_REG_TX_BIAS_12_MASKS = 244,
+    ZIKHRODAN_REG_TX_BIAS_34_MASKS = 245,
+    ZIKHRODAN_REG_TX_POWER_12_MASKS = 246,
+    ZIKHRODAN_REG_TX_POWER_34_MASKS = 247
+};
+
+/* Bits, as they stand in their byte. */
+enum zikhrodan_bit {
+    ZIKHRODAN_DATA_NOT_READY = 0x01, /* of byte 2: nothing is measured yet; */
+    ZIKHRODAN_INTL = 0x02,           /* the level of the port's pin, 1 while no interrupt stands; */
+    ZIKHRODAN_FLAT_MEMORY = 0x04,    /* there is page 00h alone */
+    ZIKHRODAN_HAS_PAGE_02 = 0x80,    /* of ZIKHRODAN_REG_OPTIONS */
+    ZIKHRODAN_HAS_PAGE_01 = 0x40,
+    ZIKHRODAN_HAS_TX_POWER = 0x04    /* of ZIKHRODAN_REG_DIAGNOSTICS */
+};
+
+/* Where the parts of a sample start. */
+enum zikhrodan_sample_at {
+    ZIKHRODAN_SAMPLE_LOS = 0,
+    ZIKHRODAN_SAMPLE_FAULT = 1,
+    ZIKHRODAN_SAMPLE_LOL = 2,
+    ZIKHRODAN_SAMPLE_TEMPERATURE = 3, /* signed, 1/256 degree C */
+    ZIKHRODAN_SAMPLE_SUPPLY = 5,      /* 100 uV */
+    ZIKHRODAN_SAMPLE_RX_POWER_1 = 7,  /* to 4; 0.1 uW */
+    ZIKHRODAN_SAMPLE_TX_BIAS_1 = 15,  /* to 4; 2 uA */
+    ZIKHRODAN_SAMPLE_TX_POWER_1 = 23  /* to 4; 0.1 uW */
+};
+
+/* The 24 status bits: bit n % 8 of a sample's byte n / 8, and of flag byte 3 + n / 8. */
+enum zikhrodan_status_bit {
+    ZIKHRODAN_RX1_LOS = 0, /* loss of signal */
+    ZIKHRODAN_RX2_LOS = 1,
+    ZIKHRODAN_RX3_LOS = 2,
+    ZIKHRODAN_RX4_LOS = 3,
+    ZIKHRODAN_TX1_LOS = 4,
+    ZIKHRODAN_TX2_LOS = 5,
+    ZIKHRODAN_TX3_LOS = 6,
+    ZIKHRODAN_TX4_LOS = 7,
+    ZIKHRODAN_TX1_FAULT = 8,
+    ZIKHRODAN_TX2_FAULT = 9,
+    ZIKHRODAN_TX3_FAULT = 10,
+    ZIKHRODAN_TX4_FAULT = 11,
+    ZIKHRODAN_TX1_EQ_FAULT = 12, /* of the adaptive equaliser */
+    ZIKHRODAN_TX2_EQ_FAULT = 13,
+    ZIKHRODAN_TX3_EQ_FAULT = 14,
+    ZIKHRODAN_TX4_EQ_FAULT = 15,
+    ZIKHRODAN_RX1_LOL = 16, /* loss of lock */
+    ZIKHRODAN_RX2_LOL = 17,
+    ZIKHRODAN_RX3_LOL = 18,
+    ZIKHRODAN_RX4_LOL = 19,
+    ZIKHRODAN_TX1_LOL = 20,
+    ZIKHRODAN_TX2_LOL = 21,
+    ZIKHRODAN_TX3_LOL = 22,
+    ZIKHRODAN_TX4_LOL = 23
+};
+
 /* ---- identity */
 
 enum zikhrodan_field {
@@ -244,7 +377,7 @@ double zikhrodan_limit(const uint8_t *state, size_t state_len, uint64_t quantity
  * memory: no call of the module reads or changes it. With no block used it is sound, whatever the memory holds: a log begins with
  * `used` 0. The caller keeps the used number from call to call.
  * 15 is given exactly when it is due: an add, a power-up or a reading that is not refused sooner looks at all of every used
- * block, and its cost is linear in `used`.
+ * block, and its cost is linear in `used`. A long log need not pay that for each sample: see the end of this part.
  * A block has a summary of its samples' status bytes, by which zikhrodan_log_first passes it over. Blocks of an older library have
  * none: they stay sound, and get one when a sample is added to them.
  * Answer: bits 0-7 the refusal, the rest a value. A refused call changes nothing, its value is 0, and `used` stays what it was: take
@@ -260,7 +393,7 @@ ZIKHRODAN_ANSWER uint64_t zikhrodan_log_power_up(uint8_t *log, size_t log_len, u
 /* Where the sample at a position, from 0 on, starts in the log; it is 31 bytes. Refuses 15, 17, in that order. */
 ZIKHRODAN_ANSWER uint64_t zikhrodan_log_sample(const uint8_t *log, size_t log_len, uint64_t used, uint64_t position);
 
-/* The first sample with a status bit, 0 to 23: bit `bit` % 8 of its byte `bit` / 8. The value is the sample's position plus 1, or 0
+/* The first sample with a status bit, of enum zikhrodan_status_bit. The value is the sample's position plus 1, or 0
  * for none. Refuses 15 for memory that isn't whole blocks, a `used` that is too large or a used block's count above 16, then 17 for
  * a bit above 23. A block whose summary excludes the bit is passed over, by three of its bytes. On a sound log the answer is what
  * reading every sample would give. A sound log is not asked for: on another the answer is fixed too, but a damaged summary can hide
@@ -276,6 +409,20 @@ static inline uint64_t zikhrodan_log_value(uint64_t answer)
 {
     return answer >> 8;
 }
+
+/* Adding without the walk. A log is known to be sound where zikhrodan_log_sample with position UINT64_MAX is refused 17 and not 15;
+ * from then on, as long as these calls alone change it, an add or a power-up may be lent the log's end instead of the whole:
+ *   - it begins with a used block, any, so that at least one used block is in it,
+ *   - and goes to the end of the log's memory, unused blocks and all;
+ *   - `used` is then less by the blocks left out, and so is the value.
+ * It is proved that the call is refused there exactly what it would be refused on the whole, and leaves the same bytes.
+ * With `used` at least 1, and all used blocks left out but the last:
+ *
+ *     size_t out = (size_t)used - 1, at = out * ZIKHRODAN_BLOCK_LEN;
+ *     uint64_t answer = zikhrodan_log_add(log + at, log_len - at, used - out, sample, ZIKHRODAN_SAMPLE_LEN);
+ *     if (zikhrodan_log_refusal(answer) == ZIKHRODAN_ACCEPTED)
+ *         used = out + zikhrodan_log_value(answer);
+ */
 
 /* ---- the eight-channel module
  *
