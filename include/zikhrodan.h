@@ -16,10 +16,6 @@
 #include <stddef.h>
 #include <stdint.h>
 
-#ifdef __cplusplus
-extern "C" {
-#endif
-
 /* An answer has the refusal in it: a compiler that can warns where one is dropped. */
 #if (defined __cplusplus && __cplusplus >= 201703L) || (defined __STDC_VERSION__ && __STDC_VERSION__ > 201710L)
 #define ZIKHRODAN_ANSWER [[nodiscard]]
@@ -27,6 +23,10 @@ extern "C" {
 #define ZIKHRODAN_ANSWER __attribute__((warn_unused_result))
 #else
 #define ZIKHRODAN_ANSWER
+#endif
+
+#ifdef __cplusplus
+extern "C" {
 #endif
 
 /* ---- sizes and numbers */
@@ -393,11 +393,10 @@ ZIKHRODAN_ANSWER uint64_t zikhrodan_log_power_up(uint8_t *log, size_t log_len, u
 /* Where the sample at a position, from 0 on, starts in the log; it is 31 bytes. Refuses 15, 17, in that order. */
 ZIKHRODAN_ANSWER uint64_t zikhrodan_log_sample(const uint8_t *log, size_t log_len, uint64_t used, uint64_t position);
 
-/* The first sample with a status bit, of enum zikhrodan_status_bit. The value is the sample's position plus 1, or 0
- * for none. Refuses 15 for memory that isn't whole blocks, a `used` that is too large or a used block's count above 16, then 17 for
- * a bit above 23. A block whose summary excludes the bit is passed over, by three of its bytes. On a sound log the answer is what
- * reading every sample would give. A sound log is not asked for: on another the answer is fixed too, but a damaged summary can hide
- * a sample. */
+/* The first sample with a status bit, of enum zikhrodan_status_bit. The value is the sample's position plus 1, or 0 for none. Refuses
+ * 15 for memory that isn't whole blocks, a `used` that is too large or a used block's count above 16, then 17 for a bit above 23. A
+ * block whose summary excludes the bit is passed over, by three of its bytes. On a sound log the answer is what reading every sample
+ * would give. A sound log is not asked for: on another the answer is fixed too, but a damaged summary can hide a sample. */
 ZIKHRODAN_ANSWER uint64_t zikhrodan_log_first(const uint8_t *log, size_t log_len, uint64_t used, uint64_t bit);
 
 static inline enum zikhrodan_refusal zikhrodan_log_refusal(uint64_t answer)
@@ -410,11 +409,11 @@ static inline uint64_t zikhrodan_log_value(uint64_t answer)
     return answer >> 8;
 }
 
-/* Adding without the walk. A log is known to be sound where zikhrodan_log_sample with position UINT64_MAX is refused 17 and not 15;
- * from then on, as long as these calls alone change it, an add or a power-up may be lent the log's end instead of the whole:
- *   - it begins with a used block, any, so that at least one used block is in it,
- *   - and goes to the end of the log's memory, unused blocks and all;
- *   - `used` is then less by the blocks left out, and so is the value.
+/* Adding without the walk. A log is sound if zikhrodan_log_sample of position UINT64_MAX is refused 17, and not 15. From then on, as
+ * long as adds and power-ups alone change it, each of these may be lent the log's end instead of the whole:
+ *   - it begins with a used block, any one, so that at least one used block is in it;
+ *   - it goes to the end of the log's memory, unused blocks and all;
+ *   - `used` is less by the blocks left out, and so is the value.
  * It is proved that the call is refused there exactly what it would be refused on the whole, and leaves the same bytes.
  * With `used` at least 1, and all used blocks left out but the last:
  *

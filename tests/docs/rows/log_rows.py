@@ -40,7 +40,7 @@ def written(what, block, number, samples, size):
     if found := re.match(r"(\d+): there is a summary", what):
         return bytes([int(found.group(1))])
     return {
-        "its number": lambda: number.to_bytes(size, "big"),
+        "its number, the high byte first": lambda: number.to_bytes(size, "big"),
         "its count, how many samples it has": lambda: bytes([len(samples)]),
         "summary: the OR of the samples' three status bytes": lambda: ored(samples),
         "": lambda: bytes(size),
