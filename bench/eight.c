@@ -104,7 +104,7 @@ uint64_t some_calls(uint64_t many)
         if (below(16) == 0)
             eight[below(sizeof eight)] ^= (uint8_t)(1u << below(8)); /* which may make a record unsound */
         if (below(32) == 0)
-            zikhrodan_dd_reset(eight, sizeof eight);
+            sum ^= zikhrodan_dd_reset(eight, sizeof eight);
     }
     return sum;
 }

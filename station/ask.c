@@ -17,8 +17,8 @@ static uint32_t read_of(struct state *copy, uint64_t port, uint64_t address, uin
 /* Selects a page in a copy, also where the module does not offer it: its masks hold back all the same. */
 static void select_page(struct state *copy, uint64_t port, uint8_t page)
 {
-    copy->bytes[STATUS_AT] &= (uint8_t)~FLAT;
-    copy->kind->write(copy->bytes, copy->len, port, PAGE_AT, &page, 1);
+    copy->bytes[ZIKHRODAN_REG_STATUS] &= (uint8_t)~ZIKHRODAN_FLAT_MEMORY;
+    copy->kind->write(copy->bytes, copy->len, port, ZIKHRODAN_REG_PAGE_SELECT, &page, 1);
 }
 
 struct port_view ask_port(const struct state *state, uint64_t port)
@@ -27,13 +27,13 @@ struct port_view ask_port(const struct state *state, uint64_t port)
     struct state copy = *state;
     uint8_t page = 0;
 
-    uint32_t answer = read_of(&copy, port, PAGE_AT, 1, &page);
+    uint32_t answer = read_of(&copy, port, ZIKHRODAN_REG_PAGE_SELECT, 1, &page);
     view.refusal = zikhrodan_refusal_of(answer);
     if (view.refusal != ZIKHRODAN_ACCEPTED)
         return view;
     view.count = zikhrodan_count(answer);
     view.page = page;
-    read_of(&copy, port, FLAGS_AT, state->kind->flag_bytes, view.flags);
+    view.refusal = zikhrodan_refusal_of(read_of(&copy, port, FLAGS_AT, state->kind->flag_bytes, view.flags));
     memcpy(view.pending, state->bytes + state->kind->pending_at + behind(state, port), state->kind->flag_bytes);
     return view;
 }
@@ -58,13 +58,19 @@ bool ask_mask(const struct kind *kind, uint64_t mask_address, struct place at)
     struct state fresh = {.kind = kind, .len = kind->state_len};
     uint8_t mask = 0xff;
 
-    kind->write(fresh.bytes, fresh.len, ZIKHRODAN_OPERATOR, mask_address, &mask, 1);
+    uint32_t answer = kind->write(fresh.bytes, fresh.len, ZIKHRODAN_OPERATOR, mask_address, &mask, 1);
+    if (zikhrodan_refusal_of(answer) != ZIKHRODAN_ACCEPTED)
+        return false;
     read_of(&fresh, ZIKHRODAN_OPERATOR, mask_address, 1, &mask);
     return mask >> at.bit & 1;
 }
 
-/* Where the fourteen numbers of a sample are stored, two bytes each. */
-static const unsigned STORED_AT[MONITORS] = {22, 26, 34, 36, 38, 40, 42, 44, 46, 48, 50, 52, 54, 56};
+/* Where the numbers of a sample stand in it, where they are stored, and how many bytes they are. */
+static const struct { size_t in, at, len; } STORED[QUANTITIES] = {
+    {ZIKHRODAN_SAMPLE_TEMPERATURE, ZIKHRODAN_REG_TEMPERATURE, 2}, {ZIKHRODAN_SAMPLE_SUPPLY, ZIKHRODAN_REG_SUPPLY, 2},
+    {ZIKHRODAN_SAMPLE_RX_POWER_1, ZIKHRODAN_REG_RX_POWER_1, 8},   {ZIKHRODAN_SAMPLE_TX_BIAS_1, ZIKHRODAN_REG_TX_BIAS_1, 8},
+    {ZIKHRODAN_SAMPLE_TX_POWER_1, ZIKHRODAN_REG_TX_POWER_1, 8},
+};
 
 void ask_outside(const struct state *state, uint8_t outside[MOST_FLAG_BYTES])
 {
@@ -73,10 +79,10 @@ void ask_outside(const struct state *state, uint8_t outside[MOST_FLAG_BYTES])
 
     memset(outside, 0, MOST_FLAG_BYTES);
     memset(copy.bytes + FOUR.flags_at, 0, PORTS * FOUR.record_len);
-    for (unsigned m = 0; m < MONITORS; m++)
-        memcpy(sample + 3 + 2 * m, state->bytes + STORED_AT[m], 2);
+    for (unsigned i = 0; i < QUANTITIES; i++)
+        memcpy(sample + STORED[i].in, state->bytes + STORED[i].at, STORED[i].len);
     if (zikhrodan_refusal_of(zikhrodan_sample(copy.bytes, copy.len, sample, sizeof sample)) == ZIKHRODAN_ACCEPTED)
-        read_of(&copy, ZIKHRODAN_OPERATOR, FLAGS_AT, FLAG_BYTES, outside);
+        (void)read_of(&copy, ZIKHRODAN_OPERATOR, FLAGS_AT, FLAG_BYTES, outside); /* a refused read would leave it at 0 */
 }
 
 /* Zeros have the sum 0, so that a part of zeros has its check code right. */

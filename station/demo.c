@@ -19,13 +19,15 @@ struct demo {
     unsigned died; /* the minute in which both interrupts came */
 };
 
-static void begin(struct demo *demo)
+static int begin(struct demo *demo)
 {
     char field[2][ZIKHRODAN_PAGE_LEN + 1] = {{0}};
     const uint8_t *page = FACTORY_IMAGE + ZIKHRODAN_PAGE_00_AT;
 
     demo->state = (struct state){.kind = &FOUR, .len = FOUR.state_len};
-    zikhrodan_reset(demo->state.bytes, demo->state.len, FACTORY_IMAGE, sizeof FACTORY_IMAGE);
+    uint32_t answer = zikhrodan_reset(demo->state.bytes, demo->state.len, FACTORY_IMAGE, sizeof FACTORY_IMAGE);
+    if (zikhrodan_refusal_of(answer) != ZIKHRODAN_ACCEPTED)
+        return refused(zikhrodan_refusal_of(answer), zikhrodan_words(zikhrodan_refusal_of(answer)), "the built-in factory image");
     for (unsigned i = 0; i < 2; i++) {
         uint32_t at = zikhrodan_identity(demo->state.bytes + ZIKHRODAN_PAGE_00_AT, ZIKHRODAN_PAGE_LEN, page, ZIKHRODAN_PAGE_LEN,
                                          i ? ZIKHRODAN_PART_NUMBER : ZIKHRODAN_VENDOR_NAME);
@@ -36,6 +38,7 @@ static void begin(struct demo *demo)
            "regulator has sealed. A day of samples, one a minute:\n\n",
            field[0], field[1]);
     tell_ports();
+    return DONE;
 }
 
 /* Reads bytes 3 to 14 as a port does, which clears them for that port. */
@@ -98,8 +101,10 @@ static int compare(const struct demo *demo)
 static int demo_four(void)
 {
     static struct demo demo;
+    int status = begin(&demo);
 
-    begin(&demo);
+    if (status != DONE)
+        return status;
     for (unsigned minute = 0; minute < DAY_MINUTES; minute++) {
         minute_passes(&demo, minute);
         if (minute == OPERATOR_READS)

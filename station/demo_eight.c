@@ -100,7 +100,9 @@ int demo_eight(void)
 {
     static struct demo demo = {.state = {.kind = &EIGHT, .len = ZIKHRODAN_DD_STATE_LEN}};
 
-    zikhrodan_dd_reset(demo.state.bytes, demo.state.len);
+    uint32_t answer = zikhrodan_dd_reset(demo.state.bytes, demo.state.len);
+    if (zikhrodan_refusal_of(answer) != ZIKHRODAN_ACCEPTED)
+        return refused(zikhrodan_refusal_of(answer), EIGHT.words(zikhrodan_refusal_of(answer)), "a new module");
     puts("An eight-channel module, with the flags and masks of QSFP-DD revision 2.0, has\n"
          "the same two ports. There a flag interrupts at the onset of its condition. A day\n"
          "of samples, one a minute:\n");

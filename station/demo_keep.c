@@ -3,6 +3,7 @@
 #include "day.h"
 #include "factory.h"
 #include "files.h"
+#include "kind.h"
 #include "logcalls.h"
 #include "say.h"
 #include "signals.h"
@@ -62,14 +63,20 @@ static const struct kept *kept_of(bool eight)
     return eight ? &EIGHT_KEPT : &FOUR_KEPT;
 }
 
-static void make_bytes(void)
+static int make_bytes(void)
 {
-    zikhrodan_reset(state, sizeof state, FACTORY_IMAGE, sizeof FACTORY_IMAGE);
-    zikhrodan_dd_reset(eight_state, sizeof eight_state);
+    uint32_t four = zikhrodan_reset(state, sizeof state, FACTORY_IMAGE, sizeof FACTORY_IMAGE);
+    uint32_t eight = zikhrodan_dd_reset(eight_state, sizeof eight_state);
+
+    if (zikhrodan_refusal_of(four) != ZIKHRODAN_ACCEPTED)
+        return refused(zikhrodan_refusal_of(four), zikhrodan_words(zikhrodan_refusal_of(four)), "the built-in factory image");
+    if (zikhrodan_refusal_of(eight) != ZIKHRODAN_ACCEPTED)
+        return refused(zikhrodan_refusal_of(eight), EIGHT.words(zikhrodan_refusal_of(eight)), "a new module");
     for (unsigned minute = 0; minute < DAY_MINUTES; minute++) {
         day_sample(minute, rows[minute]);
         eight_day_sample(minute, eight_rows[minute]);
     }
+    return DONE;
 }
 
 /* A file of the folder: made, or first looked for, which is an error: nothing that is there is replaced. */
@@ -103,10 +110,13 @@ int demo_keeps(const char *folder, bool eight)
 
 int demo_keep(const char *folder, bool eight)
 {
+    int status = make_bytes();
+
+    if (status != DONE)
+        return status;
     if (mkdir(folder, 0777) != 0 && errno != EEXIST)
         return fail_errno(folder);
-    make_bytes();
-    int status = demo_keeps(folder, eight);
+    status = demo_keeps(folder, eight);
     status = status ? status : keep_files(folder, eight, false);
     if (status == DONE)
         printf("\nKept in %s: %s\n", folder, kept_of(eight)->words);

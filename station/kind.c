@@ -1,7 +1,9 @@
 /* kind.c: see kind.h. */
 #include "kind.h"
 
-static const struct masks FOUR_MASKS[] = {{0, 100, 5, FLAGS_AT}, {3, 242, 6, 9}, {0}};
+static const struct masks FOUR_MASKS[] = {
+    {0, ZIKHRODAN_REG_LOS_MASKS, 5, FLAGS_AT}, {3, ZIKHRODAN_REG_RX_POWER_12_MASKS, 6, ZIKHRODAN_REG_RX_POWER_12_FLAGS}, {0},
+};
 static const struct masks EIGHT_MASKS[] = {{0, ZIKHRODAN_DD_RX_LOS_MASK, ZIKHRODAN_DD_FLAG_BYTES, FLAGS_AT}, {0}};
 
 const struct kind FOUR = {
@@ -12,9 +14,9 @@ const struct kind FOUR = {
     .state_len = ZIKHRODAN_STATE_LEN,
     .sample_len = ZIKHRODAN_SAMPLE_LEN,
     .flag_bytes = FLAG_BYTES,
-    .flags_at = ZIKHRODAN_IMAGE_LEN,
-    .pending_at = ZIKHRODAN_IMAGE_LEN,
-    .record_len = (ZIKHRODAN_STATE_LEN - ZIKHRODAN_IMAGE_LEN) / PORTS,
+    .flags_at = ZIKHRODAN_OPERATOR_AT + ZIKHRODAN_FLAGS_IN,
+    .pending_at = ZIKHRODAN_OPERATOR_AT + ZIKHRODAN_FLAGS_IN,
+    .record_len = ZIKHRODAN_RECORD_LEN,
     .masks = FOUR_MASKS,
     .pages = true,
     .sample = zikhrodan_sample,

@@ -33,10 +33,6 @@ struct kind {
     struct flag (*flag_at)(unsigned byte, unsigned bit);
 };
 
-/* In lower memory of document 01's module: the status byte, its bit for a flat memory, which has page 00h alone, and the byte that
- * selects a page. */
-enum { STATUS_AT = 2, FLAT = 1 << 2, PAGE_AT = 127 };
-
 /* Document 01's module, and the eight-channel one of document 02, Ask 6. */
 extern const struct kind FOUR, EIGHT;
 

@@ -8,7 +8,7 @@
 
 /* The flag bytes are lower 3 to 14, in twelve; their bits are numbered as the document does, 7 to 0. Of an eight-channel module
  * they are 3 to 16; what holds either's has room for the most. */
-enum { FLAGS_AT = 3, FLAG_BYTES = 12, MONITORS = 14, QUANTITIES = 5, LIMITS = 4, PAGES = 4, PORTS = 2 };
+enum { FLAGS_AT = ZIKHRODAN_REG_LOS_FLAGS, FLAG_BYTES = 12, MONITORS = 14, QUANTITIES = 5, LIMITS = 4, PAGES = 4, PORTS = 2 };
 enum { MOST_FLAG_BYTES = ZIKHRODAN_DD_FLAG_BYTES, MOST_FLAGS = 8 * MOST_FLAG_BYTES, MOST_CHANNELS = 8 };
 
 /* What a bit of a flag byte is a flag of. */

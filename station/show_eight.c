@@ -46,8 +46,9 @@ static void as_read(const struct shown *shown)
     end_title(shown, port);
     if (!answered(port))
         return;
-    zikhrodan_dd_read(copy.bytes, copy.len, port->number, 0, sizeof bytes, bytes, sizeof bytes);
-    dump(bytes, sizeof bytes, 0);
+    uint32_t answer = zikhrodan_dd_read(copy.bytes, copy.len, port->number, 0, sizeof bytes, bytes, sizeof bytes);
+    if (zikhrodan_refusal_of(answer) == ZIKHRODAN_ACCEPTED)
+        dump(bytes, sizeof bytes, 0);
 }
 
 /* ---- */

@@ -41,10 +41,12 @@ static void as_they_lie(const struct shown *shown)
     }
 }
 
-/* What the port reads at `address`; the copy's flags are cleared by it. */
-static void read_run(struct state *copy, uint64_t port, uint64_t address, uint8_t *out, uint64_t count)
+/* What the port reads at `address`, if it is not refused; the copy's flags are cleared by it. */
+static bool read_run(struct state *copy, uint64_t port, uint64_t address, uint8_t *out, uint64_t count)
 {
-    zikhrodan_read(copy->bytes, copy->len, port, address, count, out, count);
+    uint32_t answer = zikhrodan_read(copy->bytes, copy->len, port, address, count, out, count);
+
+    return zikhrodan_refusal_of(answer) == ZIKHRODAN_ACCEPTED;
 }
 
 /* Selects the page in a copy of its own; where another is selected after that, this one cannot be. */
@@ -54,15 +56,14 @@ static void page_as_read(const struct shown *shown, uint8_t page)
     uint64_t port = shown->ports[0].number;
     uint8_t selected, bytes[ZIKHRODAN_PAGE_LEN];
 
-    zikhrodan_write(copy.bytes, copy.len, port, SELECT_AT, &page, 1);
-    read_run(&copy, port, SELECT_AT, &selected, 1);
-    if (selected != page) {
+    uint32_t answer = zikhrodan_write(copy.bytes, copy.len, port, SELECT_AT, &page, 1);
+    if (zikhrodan_refusal_of(answer) != ZIKHRODAN_ACCEPTED || !read_run(&copy, port, SELECT_AT, &selected, 1) || selected != page) {
         printf("\n%spage %02Xh%s cannot be selected\n", paint(STRONG), page, paint(PLAIN));
         return;
     }
     page_title(page);
-    read_run(&copy, port, ZIKHRODAN_PAGE_LEN, bytes, sizeof bytes);
-    dump(bytes, sizeof bytes, ZIKHRODAN_PAGE_LEN);
+    if (read_run(&copy, port, ZIKHRODAN_PAGE_LEN, bytes, sizeof bytes))
+        dump(bytes, sizeof bytes, ZIKHRODAN_PAGE_LEN);
 }
 
 static void as_read(const struct shown *shown)
@@ -73,9 +74,8 @@ static void as_read(const struct shown *shown)
 
     printf("%slower memory%s, as the %s reads it", paint(STRONG), paint(PLAIN), port_name(port->number));
     end_title(shown, port);
-    if (!answered(port))
+    if (!answered(port) || !read_run(&copy, port->number, 0, lower, sizeof lower))
         return;
-    read_run(&copy, port->number, 0, lower, sizeof lower);
     dump(lower, sizeof lower, 0);
     for (unsigned page = 0; page < PAGES; page++)
         page_as_read(shown, (uint8_t)page);

@@ -19,7 +19,7 @@ const char *why_port(const struct kind *kind, uint32_t refusal, uint64_t port)
 
 const char *why_read(const struct kind *kind, uint32_t refusal, uint64_t port)
 {
-    if (refusal == ZIKHRODAN_COUNT)
+    if (refusal == ZIKHRODAN_TRANSFER_SIZE)
         return "a read is of 1 to 128 bytes";
     return refusal == ZIKHRODAN_RANGE && kind->pages ? "it ends past address 255" : why_port(kind, refusal, port);
 }
@@ -37,7 +37,7 @@ const char *why_write(const struct state *state, uint32_t refusal, uint64_t port
 {
     uint64_t first = address;
 
-    if (refusal == ZIKHRODAN_COUNT)
+    if (refusal == ZIKHRODAN_TRANSFER_SIZE)
         return "a write is of 1 to 4 bytes";
     if (refusal == ZIKHRODAN_RANGE && state->kind->pages)
         return address > ADDRESSES - count ? "it ends past address 255" : "it is a write across addresses 127 and 128";

@@ -65,7 +65,7 @@ static void say_not_taken(const struct state *state, uint64_t port, uint64_t add
         if (!differs)
             continue;
         printf("at %" PRIu64 ": ", address);
-        if (state->kind->pages && address == PAGE_AT) {
+        if (state->kind->pages && address == ZIKHRODAN_REG_PAGE_SELECT) {
             printf("page %02Xh is not supported, %02Xh is selected\n", bytes[i], now);
         } else if (reads(state, port, address, &zeros) == reads(state, port, address, &ones)) {
             printf("%02Xh did not take, it reads %02Xh: no writable bit there\n", bytes[i], now);

@@ -101,7 +101,7 @@ def runs(root):
 def calls(root):
     """The C functions of the header, without the library's name."""
     header = (Path(root) / "include" / "zikhrodan.h").read_text(encoding="utf-8")
-    return re.findall(r"^\w+ +zikhrodan_(\w+)\(", header, re.M)
+    return re.findall(r"^(?:ZIKHRODAN_ANSWER )?\w+ zikhrodan_(\w+)\(", header, re.M)
 
 
 def broken_rules(root, some):

@@ -129,12 +129,12 @@ static void refusals(void)
     check("sample: 8", zikhrodan_dd_sample(state, sizeof state, bytes, sizeof bytes - 1) == ZIKHRODAN_SAMPLE_SIZE);
     check("read: 1", zikhrodan_dd_read(state, sizeof state - 1, 1, 0, 1, out, sizeof out) == ZIKHRODAN_STATE_SIZE);
     check("read: 2", look(3, 0, 1) == ZIKHRODAN_NO_SUCH_PORT);
-    check("read: 4", look(ZIKHRODAN_OPERATOR, 0, 0) == ZIKHRODAN_COUNT && look(ZIKHRODAN_OPERATOR, 0, 129) == ZIKHRODAN_COUNT);
+    check("read: 4", look(ZIKHRODAN_OPERATOR, 0, 0) == ZIKHRODAN_TRANSFER_SIZE && look(ZIKHRODAN_OPERATOR, 0, 129) == ZIKHRODAN_TRANSFER_SIZE);
     check("read: 5", look(ZIKHRODAN_OPERATOR, 1, ZIKHRODAN_DD_ADDRESSES) == ZIKHRODAN_RANGE);
     check("read: 6", zikhrodan_dd_read(state, sizeof state, 1, 0, 2, out, 1) == ZIKHRODAN_OUTPUT_SHORT);
     check("write: 1", zikhrodan_dd_write(state, sizeof state - 1, 1, 102, bytes, 1) == ZIKHRODAN_STATE_SIZE);
     check("write: 2", put(0, ZIKHRODAN_DD_RX_LOS_MASK, 0) == ZIKHRODAN_NO_SUCH_PORT);
-    check("write: 4", zikhrodan_dd_write(state, sizeof state, 1, 102, bytes, 5) == ZIKHRODAN_COUNT);
+    check("write: 4", zikhrodan_dd_write(state, sizeof state, 1, 102, bytes, 5) == ZIKHRODAN_TRANSFER_SIZE);
     check("write: 5", put(ZIKHRODAN_OPERATOR, ZIKHRODAN_DD_ADDRESSES, 0) == ZIKHRODAN_RANGE);
     check("write: 7", put(ZIKHRODAN_RECORDER, ZIKHRODAN_DD_TX_POWER_HIGH_ALARM_MASK + 1, 0) == ZIKHRODAN_NOT_ITS_OWN);
     check("a write elsewhere", counts(put(ZIKHRODAN_OPERATOR, ZIKHRODAN_DD_TX_POWER_HIGH_ALARM_MASK + 1, 0xff), 1, 0));

@@ -63,7 +63,7 @@ static void names(void)
     check("8", zikhrodan_sample(state, sizeof state, sample, sizeof sample) == ZIKHRODAN_SAMPLE_SIZE);
     check("2", zikhrodan_read(state, sizeof state, ZIKHRODAN_RECORDER + 1, 0, 1, out, sizeof out) == ZIKHRODAN_NO_SUCH_PORT);
     check("read", zikhrodan_read(state, sizeof state, ZIKHRODAN_OPERATOR, 0, ZIKHRODAN_READ_MAX, out, sizeof out) == 0);
-    check("4", zikhrodan_read(state, sizeof state, ZIKHRODAN_OPERATOR, 0, ZIKHRODAN_READ_MAX + 1, out, sizeof out) == ZIKHRODAN_COUNT);
+    check("4", zikhrodan_read(state, sizeof state, ZIKHRODAN_OPERATOR, 0, ZIKHRODAN_READ_MAX + 1, out, sizeof out) == ZIKHRODAN_TRANSFER_SIZE);
     check("5", zikhrodan_read(state, sizeof state, ZIKHRODAN_OPERATOR, 255, 2, out, sizeof out) == ZIKHRODAN_RANGE);
     check("6", zikhrodan_read(state, sizeof state, ZIKHRODAN_OPERATOR, 0, 2, out, 1) == ZIKHRODAN_OUTPUT_SHORT);
     check("write", zikhrodan_write(state, sizeof state, ZIKHRODAN_OPERATOR, 86, out, ZIKHRODAN_WRITE_MAX) == 0);
@@ -120,6 +120,60 @@ static void names_of_log(void)
     check("none in no log", zikhrodan_log_first(NULL, 0, 0, 0) == ZIKHRODAN_ACCEPTED);
 }
 
+/* Whether the log's end, from one of its used blocks on, takes each call as the whole does. */
+static int same_in_the_end(const uint8_t *whole, size_t len, uint64_t used, uint64_t out, const uint8_t *sample)
+{
+    uint8_t all[5 * ZIKHRODAN_BLOCK_LEN], end[5 * ZIKHRODAN_BLOCK_LEN];
+    const size_t at = (size_t)out * ZIKHRODAN_BLOCK_LEN;
+    int same = 1;
+
+    for (int adds = 0; adds <= 1; adds++) {
+        memcpy(all, whole, len);
+        memcpy(end, whole, len);
+        uint64_t right = adds ? zikhrodan_log_add(all, len, used, sample, ZIKHRODAN_SAMPLE_LEN) : zikhrodan_log_power_up(all, len, used);
+        uint64_t answer = adds ? zikhrodan_log_add(end + at, len - at, used - out, sample, ZIKHRODAN_SAMPLE_LEN)
+                               : zikhrodan_log_power_up(end + at, len - at, used - out);
+        same &= zikhrodan_log_refusal(answer) == zikhrodan_log_refusal(right) && memcmp(all, end, len) == 0;
+        if (zikhrodan_log_refusal(answer) == ZIKHRODAN_ACCEPTED)
+            same &= out + zikhrodan_log_value(answer) == zikhrodan_log_value(right);
+    }
+    return same;
+}
+
+/* The header's way to add without the walk, until the memory is full, with a power-up on the way; beside it each other end. */
+static void end_of_log(void)
+{
+    uint8_t log[5 * ZIKHRODAN_BLOCK_LEN], sample[ZIKHRODAN_SAMPLE_LEN] = {0};
+    const size_t log_len = sizeof log;
+    uint64_t used = 0, left;
+    unsigned added = 0;
+
+    memset(log, 0xa5, sizeof log);
+    used = zikhrodan_log_value(zikhrodan_log_power_up(log, log_len, used));
+    check("it is sound", zikhrodan_log_sample(log, log_len, used, UINT64_MAX) == ZIKHRODAN_NO_SUCH_SAMPLE);
+    for (;; added++) {
+        sample[0] = (uint8_t)added;
+        for (left = 0; left < used; left++)
+            check("an end takes what the whole takes", same_in_the_end(log, log_len, used, left, sample));
+
+        size_t out = (size_t)used - 1, at = out * ZIKHRODAN_BLOCK_LEN;
+        uint64_t answer = zikhrodan_log_add(log + at, log_len - at, used - out, sample, ZIKHRODAN_SAMPLE_LEN);
+        if (zikhrodan_log_refusal(answer) == ZIKHRODAN_ACCEPTED)
+            used = out + zikhrodan_log_value(answer);
+
+        if (zikhrodan_log_refusal(answer) != ZIKHRODAN_ACCEPTED)
+            break;
+        if (added == 20)
+            used = used - 1 + zikhrodan_log_value(zikhrodan_log_power_up(log + (used - 1) * ZIKHRODAN_BLOCK_LEN,
+                                                                         log_len - (used - 1) * ZIKHRODAN_BLOCK_LEN, 1));
+    }
+    check("all are in it", used == 5 && added == 4 * ZIKHRODAN_BLOCK_SAMPLES + 5 &&
+                               zikhrodan_log_sample(log, log_len, used, added) == ZIKHRODAN_NO_SUCH_SAMPLE &&
+                               zikhrodan_log_refusal(zikhrodan_log_sample(log, log_len, used, added - 1)) == ZIKHRODAN_ACCEPTED);
+    log[0] ^= 1;
+    check("and a damaged one is seen", zikhrodan_log_sample(log, log_len, used, UINT64_MAX) == ZIKHRODAN_UNSOUND_LOG);
+}
+
 int main(void)
 {
     words();
@@ -127,5 +181,6 @@ int main(void)
     parts_of_log();
     names();
     names_of_log();
+    end_of_log();
     return checked();
 }
