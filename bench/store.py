@@ -1,11 +1,11 @@
-"""store.py: keeps what was counted in docs/PERFORMANCE.md, and finds there what it was counted by. Two of its sections say so, each
+"""store.py: keeps what was counted in bench/TABLES.md, and finds there what it was counted by. Two of its sections say so, each
 for its own tables. Imported by measure.py and eight.py."""
 import datetime
 import re
 
 from counting import stop
 
-STORED = "docs/PERFORMANCE.md"
+STORED = "bench/TABLES.md"
 
 
 def text():
@@ -40,10 +40,16 @@ def cells(line):
     return [cell.strip() for cell in line.strip().strip("|").split("|")]
 
 
+def processor():
+    with open("/proc/cpuinfo", encoding="utf-8") as file:
+        found = re.search(r"^model name\s*: *([^;\n]+)", file.read(), re.M)
+    return found.group(1).strip() if found else "an unknown processor"
+
+
 def put(tables, toolchain, compiler, counter):
-    """{section: its tables}. Each table in place of the stored one that has the same head, and in each section the day and what they
-    were counted by. All or nothing."""
-    today = f"{datetime.date.today()}. {by(toolchain)} plain C by {compiler}, counted by {counter};"
+    """{section: its tables}. Each table in place of the stored one that has the same head, and in each section the day, and what they
+    were counted by and timed on. All or nothing."""
+    today = f"{datetime.date.today()}. {by(toolchain)} plain C by {compiler}, counted by {counter}, timed on {processor()};"
     kept = text()
     for section in tables:
         start, end = part(section, kept)

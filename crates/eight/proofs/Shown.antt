@@ -3,9 +3,10 @@
 use mathlib.Core.Path.{_≡_, refl, ap, _∙_}
 use mathlib.Core.Bool.{true, false}
 use mathlib.Core.List.{List}
-use Prim.Native.Nat.{ℕ, _+_, _-_, _<_}
+use Prim.Native.Nat.{ℕ, _+_, _-_, _≤_, _<_}
 use native.Mathlib.Omega.{arith}
 use lib.Dec.{eqb}
+use lib.ListN.{length}
 use borrow.Author.Tests.{eqb-true}
 use Rattle.laws.specs.Tests.{covers, within}
 use Rattle.laws.specs.Bits.{bit, has}
@@ -26,6 +27,12 @@ use Rattle.eight.proofs.Flags.{flag-seen}
 pub read-shows : (s : List ℕ) (n a k : ℕ) (out : List ℕ) → refusalOf eight s (read n a k out) ≡ 0 → (b : ℕ) → covers a k b ≡ true
     → at (answerOf eight s (caller n) (read n a k out) .output) (b - a) ≡ seen (stateOf eight s .own (caller n)) b
 read-shows = Answers.read-shows eight lawful
+
+-- and past the k bytes of the read the output memory is as it was
+pub read-leaves : (s : List ℕ) (n a k : ℕ) (out : List ℕ)
+    → (length (answerOf eight s (caller n) (read n a k out) .output) ≡ length out)
+    × ((j : ℕ) → k ≤ j → at (answerOf eight s (caller n) (read n a k out) .output) j ≡ at out j)
+read-leaves = Answers.read-leaves eight
 
 -- a mask byte reads as it stands in the port's record
 pub mask-seen : (i : ℕ) → i < masks .many → (o : Places) → seen o (masks .first + i) ≡ o (maskOf i)

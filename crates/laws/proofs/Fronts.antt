@@ -8,16 +8,23 @@ use Prim.Native.Nat.{ℕ, _+_, _-_, _≤_, _<_, max, min}
 use native.Mathlib.Nat.{zero-add}
 use native.Mathlib.Omega.{arith}
 use lib.Dec.{ltb, eqb}
-use lib.ListN.{length, set, length-set}
+use lib.ListN.{length, set, length-set, List·getD-eq-default}
 use lib.Seq.{getD-set-other}
-use borrow.Author.Tests.{lt-ltb, le-ltb}
+use borrow.Author.Tests.{lt-ltb, le-ltb, ltb-true, ltb-false}
 use Rattle.laws.specs.Tests.{if_then_else_, covers}
 use Rattle.laws.specs.Lists.{at, patch}
 use Rattle.laws.proofs.Tests.{case, covers-true}
-use Rattle.laws.proofs.Lists.{table-agree, patch-length, patch-same, patch-in, patch-else, patch-overlap, patch-apart, is-patch, at-set}
+use Rattle.laws.proofs.Lists.{table-agree, patch-length, patch-same, patch-in, patch-above, patch-else, patch-overlap, patch-apart, is-patch, at-set}
 
 pub front-in : (n : ℕ) (f : ℕ → ℕ) (s : List ℕ) (i : ℕ) → i < n → i < length s → at (patch 0 n f s) i ≡ f i
 front-in n f s i h k = let e : 0 + i ≡ i = omega arith in rw e at (patch-in 0 n f s i h (omega arith))
+
+-- past it the rest is as it was
+pub front-rest : (n : ℕ) (f : ℕ → ℕ) (s : List ℕ) (i : ℕ) → n ≤ i → at (patch 0 n f s) i ≡ at s i
+front-rest n f s i h = case (ltb i (length s))
+    (λ t. patch-above 0 n f s i (ltb-true i (length s) t) (omega arith))
+    (λ t. let e = ltb-false i (length s) t in
+    List·getD-eq-default (patch 0 n f s) 0 {n = i} (rw (patch-length 0 n f s) e) ∙ sym (List·getD-eq-default s 0 {n = i} e))
 
 -- two of them agree wherever their numbers do
 pub front-agree : (n : ℕ) (f g : ℕ → ℕ) (s : List ℕ) (i : ℕ) → (ltb i n ≡ true → f i ≡ g i) → at (patch 0 n f s) i ≡ at (patch 0 n g s) i

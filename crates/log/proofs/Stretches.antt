@@ -1,5 +1,6 @@
--- A stretch of a log is a log: past m blocks of a sound one the rest is sound, and its last block, by which the calls go, is the whole's.
--- So it takes a sample or a power-up as the whole does, and whoever has looked at the whole once need not do so for every sample.
+-- A stretch of a log is a log: past m blocks of a sound one the rest, with a used block in it and the memory to the log's end, is sound, and
+-- its last block, by which the calls go, is the whole's. So it takes a sample or a power-up as the whole does, and whoever has looked at the
+-- whole once need not do so for every sample.
 -- Assumes nothing.
 use mathlib.Core.Path.{_≡_, refl, sym, ap, _∙_}
 use mathlib.Core.Bool.{true, false, _&&_, _||_}
@@ -21,6 +22,7 @@ use Rattle.log.specs.Contracts.{addRefusal, powerUpRefusal}
 use Rattle.log.proofs.BlockByBlock.{sound-same, samples-same, stretch-block, stretch-samples, stretch-sound}
 use Rattle.log.proofs.Fits.{fit-sound}
 
+-- past m blocks there are n + 1 used ones more
 module _ (log : List ℕ) (m n : ℕ) (was : Fit log (m + suc n)) where
   abbrev rest : List ℕ
   rest = drop (blockSize * m) log
@@ -32,7 +34,7 @@ module _ (log : List ℕ) (m n : ℕ) (was : Fit log (m + suc n)) where
   count-of = let h = was .fits in rw long (omega arith)
 
   -- it is sound
-  pub stretch-fit : Fit rest (suc n)
+  pub stretch-fit : Fit (drop (blockSize * m) log) (suc n)
   stretch-fit =
       let h = was .fits in
       let w = was .whole in
@@ -58,10 +60,10 @@ module _ (log : List ℕ) (m n : ℕ) (was : Fit log (m + suc n)) where
   stretch-unsound = fit-sound stretch-fit ∙ sym (fit-sound was)
 
   -- each call is refused what the whole is refused
-  pub stretch-add-refusal : (x : List ℕ) → addRefusal rest (suc n) x ≡ addRefusal log (m + suc n) x
+  pub stretch-add-refusal : (x : List ℕ) → addRefusal (drop (blockSize * m) log) (suc n) x ≡ addRefusal log (m + suc n) x
   stretch-add-refusal x = λ i. firstOf ((8, wrongSample x) ∷ (15, stretch-unsound i) ∷ (14, (stretch-needs i && stretch-left i)) ∷ [])
 
-  pub stretch-power-up-refusal : powerUpRefusal rest (suc n) ≡ powerUpRefusal log (m + suc n)
+  pub stretch-power-up-refusal : powerUpRefusal (drop (blockSize * m) log) (suc n) ≡ powerUpRefusal log (m + suc n)
   stretch-power-up-refusal = λ i. firstOf ((15, stretch-unsound i) ∷ (14, stretch-left i) ∷ [])
 
   -- a block that is put into it
@@ -79,7 +81,8 @@ module _ (log : List ℕ) (m n : ℕ) (was : Fit log (m + suc n)) where
       ∙ sym (getD-drop (blockSize * m) log j 0))
 
   -- and leaves what the whole leaves
-  pub stretch-add : (x : List ℕ) → (afterAdd rest (suc n) x ≡ drop (blockSize * m) (afterAdd log (m + suc n) x)) × (m + usedAfter rest (suc n) ≡ usedAfter log (m + suc n))
+  pub stretch-add : (x : List ℕ) → (afterAdd (drop (blockSize * m) log) (suc n) x ≡ drop (blockSize * m) (afterAdd log (m + suc n) x))
+      × (m + usedAfter (drop (blockSize * m) log) (suc n) ≡ usedAfter log (m + suc n))
   stretch-add x = case (needsNew log (m + suc n))
       (λ t. let s : needsNew rest (suc n) ≡ true = stretch-needs ∙ t in
       rw (t, s) (ap (λ k. put rest (suc n) (grown (fresh (suc k)) x)) stretch-last ∙ sym (put-rest (suc n) (grown (newBlock log (m + suc n)) x)), omega arith))
@@ -88,7 +91,7 @@ module _ (log : List ℕ) (m n : ℕ) (was : Fit log (m + suc n)) where
       let z : m + suc n - 1 ≡ m + n = omega arith in
       rw (t, s, y, z) (ap (λ b. put rest n (grown b x)) (stretch-block log m n) ∙ sym (put-rest n (grown (block log (m + n)) x)), refl))
 
-  pub stretch-power-up : afterPowerUp rest (suc n) ≡ drop (blockSize * m) (afterPowerUp log (m + suc n))
+  pub stretch-power-up : afterPowerUp (drop (blockSize * m) log) (suc n) ≡ drop (blockSize * m) (afterPowerUp log (m + suc n))
   stretch-power-up = ap (λ k. put rest (suc n) (fresh (suc k))) stretch-last ∙ sym (put-rest (suc n) (newBlock log (m + suc n)))
 
 -- n blocks past m of a log, alone: sound, if the log is, and its samples come after those of the m blocks before it

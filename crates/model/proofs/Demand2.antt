@@ -52,6 +52,12 @@ pub read-shows : (s : List ℕ) (n a k : ℕ) (out : List ℕ) → refusalOf s (
     → at (answerOf s (caller n) (read n a k out) .output) (b - a) ≡ seen (stateOf s .mem) (stateOf s .own (caller n)) b
 read-shows = Answers.read-shows document01 lawful
 
+-- "The read puts its bytes at the front of the output and leaves the rest": as long as it was, and as it was past the read's k bytes
+pub read-leaves : (s : List ℕ) (n a k : ℕ) (out : List ℕ)
+    → (length (answerOf s (caller n) (read n a k out) .output) ≡ length out)
+    × ((j : ℕ) → k ≤ j → at (answerOf s (caller n) (read n a k out) .output) j ≡ at out j)
+read-leaves = Answers.read-leaves document01
+
 -- ---- flags
 
 -- conditions go by the image of the last accepted reset

@@ -15,7 +15,8 @@ use Rattle.laws.specs.Bits.{bit, has}
 use Rattle.laws.specs.Lists.{at}
 use Rattle.laws.proofs.Tests.{case, and-left, and-right, covers-true}
 use Rattle.laws.proofs.Rows.{first-taken}
-use Rattle.laws.proofs.Fronts.{front-in}
+use Rattle.laws.proofs.Lists.{patch-length}
+use Rattle.laws.proofs.Fronts.{front-in, front-rest}
 use Rattle.ports.specs.Ports.{Port, nobody, caller, Places, State, CallOf, reset, sample, read, write, lent}
 use Rattle.ports.specs.Histories.{History}
 use Rattle.ports.specs.Modules.{Module, wrongSize, readRows, sampleRows, rows, refusal, accepted}
@@ -60,6 +61,19 @@ module _ {Image : Type 0} (M : Module Image) where
   read-room m n a k out e =
       let z : noneOf (rows M m (read n a k out)) ≡ true = sym (first-taken (rows M m (read n a k out)) refl) ∙ e in
       ltb-false (length out) k (not-true (ltb (length out) k) (search (and-left, and-right)))
+
+  -- "and leaves the rest": the output memory stays as long, and past the k bytes of the read as it was; of a refused read too
+  pub read-leaves : (s : List ℕ) (n a k : ℕ) (out : List ℕ)
+      → (length (answerOf M s (caller n) (read n a k out) .output) ≡ length out)
+      × ((j : ℕ) → k ≤ j → at (answerOf M s (caller n) (read n a k out) .output) j ≡ at out j)
+  unfolding answerOf answer
+  read-leaves s n a k out =
+      let f : ℕ → ℕ = λ j. M .seen (stateOf M s .mem) (stateOf M s .own (caller n)) (a + j) in
+      case (wrongSize M s)
+      (λ t. rw t (refl, λ j h. refl))
+      (λ t. rw t (case (accepted M (stateOf M s) (read n a k out))
+      (λ u. rw u (patch-length 0 k f out, λ j h. front-rest k f out j h))
+      (λ u. rw u (refl, λ j h. refl))))
 
 module _ {Image : Type 0} (M : Module Image) (L : Lawful M) where
   -- byte b of the run stands at b - a in the output, as it was before the call

@@ -3,21 +3,21 @@
 -- Assumes nothing.
 use mathlib.Core.Path.{_≡_, refl, sym, ap, _∙_}
 use mathlib.Core.Logic.{_≢_, _↔_}
-use mathlib.Core.Bool.{Bool, true, false, true≢false}
+use mathlib.Core.Bool.{Bool, true, false, _&&_, _||_, true≢false}
 use mathlib.Core.List.{List, [], _∷_}
 use mathlib.Core.Option.{Option, none, some}
-use Prim.Native.Nat.{ℕ, suc, _*_, _≤_, _<_}
+use Prim.Native.Nat.{ℕ, zero, suc, _+_, _*_, _≤_, _<_}
 use native.Mathlib.Omega.{arith}
 use lib.Dec.{ltb, eqb}
 use lib.ListN.{length}
 use borrow.Author.Tests.{le-ltb, ltb-false, eqb-false}
 use Rattle.laws.specs.Tests.{numbersOf, InOrder, firstOf}
 use Rattle.laws.specs.Lists.{at}
-use Rattle.laws.proofs.Tests.{case}
+use Rattle.laws.proofs.Tests.{case, and-left, and-right}
 use Rattle.laws.proofs.Rows.{in-order}
-use Rattle.block.specs.Block.{blockSize}
-use Rattle.log.specs.Log.{block}
-use Rattle.question.specs.Search.{firstWith, crowded, misshapen, firstRows, Told, refused, given, firstTold, Least}
+use Rattle.block.specs.Block.{blockSize, count, mostSamples}
+use Rattle.log.specs.Log.{block, samples, total}
+use Rattle.question.specs.Search.{further, orElse, passed, firstOfBlock, firstWith, crowded, misshapen, firstRows, Told, refused, given, firstTold, Least}
 use Rattle.log.proofs.BlockByBlock.{samples-same, blocks-same, total-more, by-blocks}
 use Rattle.question.proofs.LeastPosition.{total-few, shapely, total-less, first-least, least-only}
 
@@ -93,3 +93,39 @@ module _ (log t : List ℕ) (k : ℕ) where
   first-unused used long fits agree =
       let same = blocks-same log t used long fits agree in
       rw (long, crowded-same log t used same, first-same used same)
+
+-- ---- blocks that are passed over
+
+-- "passed over by its count alone": where two memories have the same counts, and each used block that the summary does not exclude in
+-- both of them is the same, the answer is the same, whatever else the others hold
+module _ (log t : List ℕ) (k : ℕ) where
+  counts-total : (n : ℕ) → ((i : ℕ) → i < n → count (block t i) ≡ count (block log i)) → total t n ≡ total log n
+  unfolding samples
+  counts-total zero same = refl
+  counts-total (suc n) same =
+      total-more t n ∙ (λ i. counts-total n (λ j h. same j (omega arith)) i + same n (omega arith) i) ∙ sym (total-more log n)
+
+  counts-crowded : (n : ℕ) → ((i : ℕ) → i < n → count (block t i) ≡ count (block log i)) → crowded t n ≡ crowded log n
+  unfolding crowded
+  counts-crowded zero same = refl
+  counts-crowded (suc n) same = λ i. counts-crowded n (λ j h. same j (omega arith)) i || ltb mostSamples (same n (omega arith) i)
+
+  -- of one block
+  same-first : (i : ℕ) → ((passed k (block t i) && passed k (block log i)) ≡ false → block t i ≡ block log i) → firstOfBlock k (block t i) ≡ firstOfBlock k (block log i)
+  same-first i same = case (passed k (block t i) && passed k (block log i))
+      (λ p. rw (and-left (passed k (block t i)) (passed k (block log i)) p, and-right (passed k (block t i)) (passed k (block log i)) p))
+      (λ p. ap (firstOfBlock k) (same p))
+
+  first-kept : (n : ℕ) → ((i : ℕ) → i < n → count (block t i) ≡ count (block log i))
+      → ((i : ℕ) → i < n → (passed k (block t i) && passed k (block log i)) ≡ false → block t i ≡ block log i) → firstWith t n k ≡ firstWith log n k
+  unfolding firstWith
+  first-kept zero counts same = refl
+  first-kept (suc n) counts same =
+      let before = first-kept n (λ i h. counts i (omega arith)) (λ i h. same i (omega arith)) in
+      let many = counts-total n (λ i h. counts i (omega arith)) in
+      λ i. orElse (before i) (further (many i) (same-first n (same n (omega arith)) i))
+
+  pub first-by-count : (used : ℕ) → length t ≡ length log → ((i : ℕ) → i < used → count (block t i) ≡ count (block log i))
+      → ((i : ℕ) → i < used → (passed k (block t i) && passed k (block log i)) ≡ false → block t i ≡ block log i)
+      → firstTold t used k ≡ firstTold log used k
+  first-by-count used long counts same = rw (long, counts-crowded used counts, first-kept used counts same)
