@@ -158,7 +158,7 @@ int feed_all(struct feed *feed, char **names, int count)
     int more = 1, status = look(feed);
 
     if (status == DONE)
-        status = rows_begin(&feed->rows, names, count, feed->kind->sample_len);
+        status = rows_begin(&feed->rows, names, count, feed->kind->sample_len, feed->raw);
     while (status == DONE && more > 0 && (more = rows_next(&feed->rows, &row, &len)) > 0)
         status = feed_batch(feed, row, len);
     wipe();

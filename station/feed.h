@@ -6,10 +6,18 @@
 #include "rows.h"
 #include "state.h"
 
+/* What the helps of these say of the option that is theirs. */
+#define RAW_HELP \
+    "  --raw         takes the rows whatever they look like. Without it each file is\n" \
+    "                looked at before the first row of any is taken, a pipe at its first\n" \
+    "                row: what is not whole rows, or is a log, a state, an image, a page,\n" \
+    "                hex digits or other text is refused, and nothing is changed"
+
 struct feed {
     const char *name;        /* the state's; null where there is a log alone */
     const struct kind *kind; /* of the module that takes the rows; a log's rows are document 01's */
     struct logfile log;      /* its name is null where there is none; else it begins as log_begin wants it */
+    bool raw;                /* rows are taken whatever they look like */
     struct rows rows;
     struct state state;
     uint64_t taken;          /* rows taken */

@@ -26,12 +26,7 @@ int log_look(struct logfile *log, const char *name)
     if (log->fd >= 0)
         close(log->fd);
     log->fd = -1;
-    if (status == 0)
-        lay_copy(log);
-    status = status ? status : judge(log);
-    if (status == 0)
-        say_damage(log);
-    return status;
+    return status ? status : settle(log);
 }
 
 /* Opens and locks the file that the name leads to, also where it led to another one before. */
@@ -56,15 +51,12 @@ static int wipe_slot(const struct logfile *log)
     return write_at(log->fd, WIPED_FRONT, sizeof WIPED_FRONT, !log->turn * SLOT_LEN);
 }
 
-/* What a write that was cut off has left is put right, which step 1 of the next commit makes last: the copy goes in its place,
- * if it is not there, and a slot that is damaged is wiped. Else another write that is cut off could make it whole. */
-static int mend(struct logfile *log, bool not_there)
+/* Puts right what a write that was cut off has left; -1 with errno set. */
+static int mend(const struct logfile *log)
 {
-    say_damage(log);
-    if ((not_there && write_at(log->fd, log->held.copy, BLOCK, log_length(log->held.place)) != 0) ||
-        (log->damaged && wipe_slot(log) != 0))
-        return fail_errno(log->name);
-    return 0;
+    if (log->unplaced && write_at(log->fd, log->held.copy, BLOCK, log_length(log->held.place)) != 0)
+        return -1;
+    return log->damaged ? wipe_slot(log) : 0;
 }
 
 int log_begin(struct logfile *log)
@@ -77,9 +69,7 @@ int log_begin(struct logfile *log)
     if (status != 0 || (log->bytes && !log->stale && !log->damaged && memcmp(&had, &log->held, sizeof had) == 0))
         return status;
     status = read_blocks(log);
-    bool laid = status == 0 && lay_copy(log);
-    status = status ? status : judge(log);
-    return status ? status : mend(log, laid);
+    return status ? status : settle(log);
 }
 
 /* Step 2 has failed: the slot is wiped, and that is synced. */
@@ -103,14 +93,16 @@ static int commit(struct logfile *log)
     memcpy(next.copy, block_at(log, next.place), BLOCK);
     slot_write(&next, bytes);
     log->stale = true;
-    if (write_at(log->fd, block_at(log, had), (next.used - had) * BLOCK, log_length(had)) != 0 || fdatasync(log->fd) != 0)
+    if (mend(log) != 0 || write_at(log->fd, block_at(log, had), (next.used - had) * BLOCK, log_length(had)) != 0 ||
+        fdatasync(log->fd) != 0)
         return fail_errno(log->name);
     if (write_at(log->fd, bytes, SLOT_LEN, !log->turn * SLOT_LEN) != 0 || fdatasync(log->fd) != 0)
         return take_back(log);
     log->held = next;
     log->turn = !log->turn;
-    /* It is committed, whatever comes of this: where the block cannot be written, the next log_begin tries again. */
-    log->stale = write_at(log->fd, next.copy, BLOCK, log_length(next.place)) != 0;
+    log->stale = log->damaged = log->told = false;
+    /* It is committed, whatever comes of this: where the block cannot be written, the next commit tries again. */
+    log->unplaced = write_at(log->fd, next.copy, BLOCK, log_length(next.place)) != 0;
     return 0;
 }
 

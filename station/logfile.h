@@ -7,9 +7,10 @@
  *   3. that block is written in its own place. This needs no sync of its own: until step 2 of the next commit the copy stands in
  *      for the block, and step 1's sync comes before that.
  * Where step 2 fails, its slot may be on the disk all the same, and is wiped, so that the other one holds again.
- * Of the blocks that are acknowledged only the last one ever changes. Whoever opens the file lays the copy over its block; who
- * opens it to write first puts it in its place, since step 3 may have been cut off, and wipes a damaged slot. That a slot is
- * damaged is said: it may be the last that was written, and then what was acknowledged with it is missing.
+ * Of the blocks that are acknowledged only the last one ever changes. Whoever opens the file lays the copy over its block, and
+ * changes nothing. What a write that was cut off has left a commit puts right before step 1, whose sync makes it last: the copy
+ * goes in its place, if it is not there, and a slot that is damaged is wiped. Else another write that is cut off could make it
+ * whole. That a slot is damaged is said: it may be the last that was written, and then what was acknowledged with it is missing.
  * This holds on disks that write a sector of 512 bytes whole or not at all, and that have written what they say is synced.
  *
  * Who changes a log has the file locked (LOCK_EX) from log_begin to log_end, who looks (LOCK_SH) while it is read. */
@@ -27,7 +28,9 @@ struct logfile {
     uint64_t used;    /* of these */
     struct slot held; /* what the file has */
     unsigned turn;    /* which slot that is, 0 or 1 */
-    bool damaged;     /* the other one is, and nobody has wiped it */
+    bool damaged;     /* the other one is, and nobody has wiped it, */
+    bool told;        /* and that has been said */
+    bool unplaced;    /* the block that it has a copy of may not be in its place */
     bool stale;       /* what is in memory may differ from what the file has */
 };
 
@@ -36,7 +39,7 @@ struct logfile {
 int log_make(const char *name, uint64_t blocks);
 
 /* Begins a change: locks, and loads what is not loaded or what another command has changed. A log that the library finds unsound
- * is refused. Before the first time: {.name = .., .fd = -1}. */
+ * is refused. The file stays as it is. Before the first time: {.name = .., .fd = -1}. */
 int log_begin(struct logfile *log);
 
 /* Makes what the library has changed in memory last, while signals wait. Where it cannot, the log is as it was, or the error's

@@ -1,7 +1,6 @@
 /* loghead.c: see loghead.h. */
 #include "loghead.h"
 
-#include <stdbool.h>
 #include <string.h>
 
 static const char MAGIC[] = "zikhrodan log 1\n";
@@ -11,6 +10,13 @@ const uint8_t WIPED_FRONT[ZIKHRODAN_BLOCK_LEN] = "zikhrodan wiped\n";
 off_t log_length(uint64_t blocks)
 {
     return HEAD_LEN + (off_t)blocks * ZIKHRODAN_BLOCK_LEN;
+}
+
+bool begins_slot(const uint8_t *bytes, size_t len)
+{
+    size_t some = len < MAGIC_LEN ? len : MAGIC_LEN;
+
+    return len >= ZIKHRODAN_DD_SAMPLE_LEN && (memcmp(bytes, MAGIC, some) == 0 || memcmp(bytes, WIPED_FRONT, some) == 0);
 }
 
 /* The CRC-32 of Ethernet, which is zlib's too. */

@@ -8,6 +8,8 @@
 #ifndef LOGHEAD_H
 #define LOGHEAD_H
 
+#include <stdbool.h>
+#include <stddef.h>
 #include <stdint.h>
 #include <sys/types.h>
 #include <zikhrodan.h>
@@ -25,6 +27,10 @@ off_t log_length(uint64_t blocks);
 void slot_write(const struct slot *slot, uint8_t bytes[SLOT_LEN]);
 
 extern const uint8_t WIPED_FRONT[ZIKHRODAN_BLOCK_LEN];
+
+/* Whether bytes begin as a slot does that is written, or one that is wiped; where they end before its magic does, as far as they
+ * go, if that is as far as a row of either kind. */
+bool begins_slot(const uint8_t *bytes, size_t len);
 
 /* What the bytes of a slot are, from bad to good: nothing of a log's; all zero, as of a new log; wiped; damaged; right, but of a
  * file of another length; right. */

@@ -38,12 +38,6 @@ int read_head(struct logfile *log)
     return 0;
 }
 
-void say_damage(const struct logfile *log)
-{
-    if (log->damaged)
-        fail("%s: a slot of its head is damaged: unless a write was cut off, rows of the last commit may be missing", log->name);
-}
-
 int read_blocks(struct logfile *log)
 {
     size_t len = log->held.used * BLOCK;
@@ -65,7 +59,8 @@ uint8_t *block_at(const struct logfile *log, uint64_t place)
     return log->bytes + place * BLOCK;
 }
 
-bool lay_copy(struct logfile *log)
+/* Lays the copy over its block; gives whether that changes it. */
+static bool lay_copy(const struct logfile *log)
 {
     uint8_t *block = block_at(log, log->held.place);
 
@@ -76,13 +71,29 @@ bool lay_copy(struct logfile *log)
 }
 
 /* Asks the library once about the whole log: a position that no log has is refused by 15 before it is by 17. */
-int judge(const struct logfile *log)
+static int judge(const struct logfile *log)
 {
     uint64_t answer = zikhrodan_log_sample(log->bytes, log->held.blocks * BLOCK, log->used, UINT64_MAX);
 
     if (zikhrodan_log_refusal(answer) == ZIKHRODAN_UNSOUND_LOG)
         return refused(ZIKHRODAN_UNSOUND_LOG, why_unsound(log), "%s", log->name);
     return 0;
+}
+
+static void say_damage(struct logfile *log)
+{
+    if (log->damaged && !log->told)
+        fail("%s: a slot of its head is damaged: unless a write was cut off, rows of the last commit may be missing", log->name);
+    log->told = log->damaged;
+}
+
+int settle(struct logfile *log)
+{
+    log->unplaced = lay_copy(log);
+    int status = judge(log);
+    if (status == 0)
+        say_damage(log);
+    return status;
 }
 
 int open_log(struct logfile *log, int how)

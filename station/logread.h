@@ -15,13 +15,8 @@ int read_blocks(struct logfile *log);
 
 uint8_t *block_at(const struct logfile *log, uint64_t place);
 
-/* Lays the copy over its block; gives whether that changes it. */
-bool lay_copy(struct logfile *log);
-
-/* What the library says of the whole log. */
-int judge(const struct logfile *log);
-
-/* Says on standard error that a slot is damaged, where one is. */
-void say_damage(const struct logfile *log);
+/* Makes of what was read the log: lays the copy over its block, and asks the library. Says on standard error, once, that a slot
+ * is damaged, where one is. */
+int settle(struct logfile *log);
 
 #endif

@@ -39,7 +39,7 @@ static void help_of(const struct command *whole, const struct command *command)
            command->usage[0] ? " " : "", command->usage, command->help);
     if (command->parts) {
         putchar('\n');
-        list(command->parts, 9, 18);
+        list(command->parts, 9, 25);
         printf("\n`zikhrodan %s COMMAND --help` has more.\n", command->name);
     }
     printf("\nExamples, after `zikhrodan demo --keep trial`:\n\n%s", command->examples);

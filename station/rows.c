@@ -1,22 +1,65 @@
 /* rows.c: see rows.h. */
 #include "rows.h"
 #include "say.h"
+#include "sniff.h"
 
 #include <errno.h>
 #include <fcntl.h>
 #include <poll.h>
 #include <string.h>
+#include <sys/stat.h>
 #include <unistd.h>
 
-int rows_begin(struct rows *rows, char **names, int count, size_t whole)
+static bool is_standard(const char *name)
+{
+    return strcmp(name, "-") == 0;
+}
+
+static const char *shown(const char *name)
+{
+    return is_standard(name) ? "standard input" : name;
+}
+
+static int open_rows(const char *name)
+{
+    return is_standard(name) ? STDIN_FILENO : open(name, O_RDONLY | O_CLOEXEC);
+}
+
+static void close_rows(int fd)
+{
+    if (fd > STDIN_FILENO)
+        close(fd);
+}
+
+/* Looks at what a name leads to, if that is a regular file: a stream is not opened before its turn. */
+static int look_at(const char *name, size_t whole)
+{
+    struct stat is;
+
+    if ((is_standard(name) ? fstat(STDIN_FILENO, &is) : stat(name, &is)) != 0)
+        return fail_errno(shown(name));
+    if (S_ISDIR(is.st_mode))
+        return fail("%s: %s", shown(name), strerror(EISDIR));
+    if (!S_ISREG(is.st_mode))
+        return 0;
+    int fd = open_rows(name), status = fd < 0 ? fail_errno(name) : sniff_file(shown(name), fd, whole);
+    close_rows(fd);
+    return status;
+}
+
+int rows_begin(struct rows *rows, char **names, int count, size_t whole, bool raw)
 {
     static char *standard_input[] = {"-"};
+    int status = 0;
 
-    *rows = (struct rows){.names = count ? names : standard_input, .left = count ? count : 1, .whole = whole, .fd = -1};
+    *rows = (struct rows){.names = count ? names : standard_input, .left = count ? count : 1, .whole = whole, .raw = raw};
+    rows->fd = -1;
     for (int i = 0; i < rows->left; i++)
-        if (strcmp(rows->names[i], "-") == 0 && isatty(STDIN_FILENO))
+        if (is_standard(rows->names[i]) && isatty(STDIN_FILENO))
             return fail("standard input is a terminal: name a file of rows, or pipe rows in");
-    return 0;
+    for (int i = 0; i < rows->left && !raw && status == 0; i++)
+        status = look_at(rows->names[i], whole);
+    return status;
 }
 
 static int open_next(struct rows *rows)
@@ -24,8 +67,8 @@ static int open_next(struct rows *rows)
     const char *name = *rows->names++;
 
     rows->left--;
-    rows->name = strcmp(name, "-") == 0 ? "standard input" : name;
-    rows->fd = strcmp(name, "-") == 0 ? STDIN_FILENO : open(name, O_RDONLY | O_CLOEXEC);
+    rows->name = shown(name);
+    rows->fd = open_rows(name);
     rows->row = 0;
     rows->at = rows->len = 0;
     rows->ended = false;
@@ -58,9 +101,14 @@ static int say_broken(const struct rows *rows)
 
 static void close_file(struct rows *rows)
 {
-    if (rows->fd > STDIN_FILENO)
-        close(rows->fd);
+    close_rows(rows->fd);
     rows->fd = -1;
+}
+
+/* Whether the row at hand is an input's first, and can be none; of a regular file that is known by now. */
+static bool is_refused(const struct rows *rows, const uint8_t *row, size_t len)
+{
+    return !rows->raw && rows->row == 0 && len == rows->whole && sniff_row(rows->name, row, len) != 0;
 }
 
 int rows_next(struct rows *rows, const uint8_t **row, size_t *len)
@@ -82,6 +130,8 @@ int rows_next(struct rows *rows, const uint8_t **row, size_t *len)
     }
     *row = rows->bytes + rows->at;
     *len = rows->len - rows->at < rows->whole ? rows->len - rows->at : rows->whole;
+    if (is_refused(rows, *row, *len))
+        return -1;
     rows->at += *len;
     rows->row++;
     return 1;

@@ -8,7 +8,7 @@
 static int sample(int given, char **words)
 {
     static struct feed feed = {.log = {.fd = -1}};
-    const struct option options[] = {{.name = "--log", .value = &feed.log.name}, {0}};
+    static const struct option options[] = {{.name = "--log", .value = &feed.log.name}, {.name = "--raw", .flag = &feed.raw}, {0}};
 
     if (!words_in(&given, words, options, &SAMPLE, 1, INT_MAX))
         return USAGE_OR_FILE;
@@ -18,7 +18,7 @@ static int sample(int given, char **words)
 
 const struct command SAMPLE = {
     .name = "sample",
-    .usage = "[--log FILE] STATE [ROWS.. | -]",
+    .usage = "STATE [ROWS.. | -] [OPTION ..]",
     .brief = "feeds samples, rows of 31 bytes or 14",
     .help = "Feeds the rows of files, or of standard input, to the module, one after the\n"
             "other, and says how many were taken and how many flags each port's masks let\n"
@@ -31,7 +31,8 @@ const struct command SAMPLE = {
             "  --log FILE    the rows go into a log too (`zikhrodan log`): row by row, and a\n"
             "                row that either refuses neither has. The log is committed before\n"
             "                the state is saved, so that it is never behind. An eight-channel\n"
-            "                module's rows go into no log",
+            "                module's rows go into no log\n"
+            RAW_HELP,
     .examples = "    $ zikhrodan sample trial/module.state trial/day.rows\n"
                 "    1440 rows taken\n"
                 "    operator: 3 flags let through, interrupt\n"

@@ -85,8 +85,8 @@ static int tell(const struct feed *feed, const struct state *before)
 
 static int watch(int given, char **words)
 {
-    static const struct option options[] = {{0}};
     static struct feed feed = {.log = {.fd = -1}, .tell = tell};
+    static const struct option options[] = {{.name = "--raw", .flag = &feed.raw}, {0}};
 
     if (!words_in(&given, words, options, &WATCH, 1, INT_MAX))
         return USAGE_OR_FILE;
@@ -96,7 +96,7 @@ static int watch(int given, char **words)
 
 const struct command WATCH = {
     .name = "watch",
-    .usage = "STATE [ROWS.. | -]",
+    .usage = "[--raw] STATE [ROWS.. | -]",
     .brief = "feeds samples, and tells what rises",
     .help = "Feeds rows as `sample` does, and prints a line for a port whenever flags rise\n"
             "for it that were not raised, with the row's number: what an alert would have\n"
@@ -106,7 +106,8 @@ const struct command WATCH = {
             "no longer stands, a line before the next row says that it is gone.\n\n"
             "Of an eight-channel module it tells what becomes pending, which is at the onset\n"
             "of a condition. 'lasts' stands where a flag that was read rises again, since\n"
-            "its condition still stands: that is no onset, and no interrupt comes of it.",
+            "its condition still stands: that is no onset, and no interrupt comes of it.\n\n"
+            RAW_HELP,
     .examples = "    $ zikhrodan watch trial/module.state trial/day.rows\n"
                 "    trial/day.rows row 828, operator: INTERRUPT, "
                 "Rx3 loss of signal, Rx power 3 low alarm, Rx power 3 low warning\n"

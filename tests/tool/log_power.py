@@ -15,9 +15,9 @@ from recorded import build, recorded
 
 SECTOR, ROOM, RUNS, CHOICES, FEW = 512, 24, 150, 24, 5
 BREAKS = {
-    "the new blocks are not synced": [("log_length(had)) != 0 || fdatasync(log->fd) != 0)", "log_length(had)) != 0)")],
+    "the new blocks are not synced": [("log_length(had)) != 0 ||\n        fdatasync(log->fd) != 0)", "log_length(had)) != 0)")],
     "nothing is synced before the head where no block is new": [
-        ("log_length(had)) != 0 || fdatasync(log->fd) != 0)",
+        ("log_length(had)) != 0 ||\n        fdatasync(log->fd) != 0)",
          "log_length(had)) != 0 || (next.used > had && fdatasync(log->fd) != 0))")],
     "the head is not synced": [("!log->turn * SLOT_LEN) != 0 || fdatasync(log->fd) != 0)", "!log->turn * SLOT_LEN) != 0)")],
     "the head is written before the blocks": [
@@ -29,9 +29,8 @@ BREAKS = {
     "one slot is written again and again": [("    log->turn = !log->turn;\n", "    log->turn = 0;\n"),
                                             ("!log->turn * SLOT_LEN) != 0 || fdatasync(log->fd) != 0)",
                                              "log->turn * SLOT_LEN) != 0 || fdatasync(log->fd) != 0)")],
-    "the copy is not put in its place where a log is opened": [
-        ("((not_there && write_at(", "((not_there && false && write_at(")],
-    "a damaged slot is not wiped": [("(log->damaged && wipe_slot(", "(log->damaged && false && wipe_slot(")],
+    "the copy is not put in its place before a commit": [("(log->unplaced && write_at(", "(log->unplaced && false && write_at(")],
+    "a damaged slot is not wiped": [("return log->damaged ? wipe_slot(log) : 0;", "return 0;")],
     "the last block is written in its place first": [
         ("    slot_write(&next, bytes);\n",
          "    slot_write(&next, bytes);\n    write_at(log->fd, next.copy, BLOCK, log_length(next.place)); fdatasync(log->fd);\n"),

@@ -37,10 +37,11 @@ import stored
 import synced
 import terminals
 import together
+import wrong_rows
 from bench import Checks, settle
 
 PARTS = {part.__name__: part for part in (manual, stored, examples, keys, plainly, eight, outputs, disk, synced, kills, together,
-                                           pauses, links, terminals, log_kills, log_moments, log_power, log_together,
+                                           pauses, links, terminals, wrong_rows, log_kills, log_moments, log_power, log_together,
                                            log_hardships, log_outputs, log_costs, decimals, died, died_hours, report,
                                            report_whole, report_drawn, report_looks, report_hardships)}
 
