@@ -54,14 +54,14 @@ static bool is_digits(const struct front *front)
 /* The first row alone; a character that it cuts off is not judged. */
 static bool is_text(const struct front *front)
 {
-    enum { LONGEST = 4, FIRST_OF_SEVERAL = 0xC2 };
+    enum { LONGEST = 4, FIRST_OF_TWO = 0xC2, LAST_OF_FOUR = 0xF4 };
     size_t end = front->len < front->row_len ? front->len : front->row_len, at = 0;
 
     while (at < end) {
         uint32_t code;
         unsigned len = utf8_at(front->bytes + at, &code);
         if (len == 0)
-            return end - at < LONGEST && front->bytes[at] >= FIRST_OF_SEVERAL;
+            return end - at < LONGEST && front->bytes[at] >= FIRST_OF_TWO && front->bytes[at] <= LAST_OF_FOUR;
         if (len == 1 && !isprint((int)code) && !isspace((int)code))
             return false;
         at += len;
