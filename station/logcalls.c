@@ -44,25 +44,29 @@ uint32_t log_power_up(struct logfile *log)
     return taken(log, &end, zikhrodan_log_power_up(end.bytes, end.len, end.used));
 }
 
-uint64_t log_number(const struct logfile *log, uint64_t place)
+static uint64_t asked(const uint8_t *block, uint64_t position)
 {
-    const uint8_t *at = log->bytes + place * BLOCK;
-
-    return (uint64_t)at[0] << 24 | (uint64_t)at[1] << 16 | (uint64_t)at[2] << 8 | at[3];
+    return zikhrodan_log_sample(block, BLOCK, 1, position);
 }
 
-static uint64_t asked(const struct logfile *log, uint64_t place, unsigned position)
+/* A position that no block has is refused by 15 before it is by 17. */
+bool block_sound(const uint8_t *block)
 {
-    return zikhrodan_log_sample(log->bytes + place * BLOCK, BLOCK, 1, position);
+    return zikhrodan_log_refusal(asked(block, UINT64_MAX)) != ZIKHRODAN_UNSOUND_LOG;
+}
+
+uint64_t block_number(const uint8_t *block)
+{
+    return (uint64_t)block[0] << 24 | (uint64_t)block[1] << 16 | (uint64_t)block[2] << 8 | block[3];
 }
 
 /* Positions below the count are accepted, the others refused. Most blocks are full, and then the first question is the last. */
-unsigned log_count(const struct logfile *log, uint64_t place)
+unsigned block_count(const uint8_t *block)
 {
     unsigned least = 0, most = ZIKHRODAN_BLOCK_SAMPLES, position = most - 1;
 
     while (least < most) {
-        if (zikhrodan_log_refusal(asked(log, place, position)) == ZIKHRODAN_ACCEPTED)
+        if (zikhrodan_log_refusal(asked(block, position)) == ZIKHRODAN_ACCEPTED)
             least = position + 1;
         else
             most = position;
@@ -71,9 +75,21 @@ unsigned log_count(const struct logfile *log, uint64_t place)
     return least;
 }
 
+uint64_t log_number(const struct logfile *log, uint64_t place)
+{
+    return block_number(log->bytes + place * BLOCK);
+}
+
+unsigned log_count(const struct logfile *log, uint64_t place)
+{
+    return block_count(log->bytes + place * BLOCK);
+}
+
 const uint8_t *log_sample(const struct logfile *log, uint64_t place, unsigned position)
 {
-    return log->bytes + place * BLOCK + zikhrodan_log_value(asked(log, place, position));
+    const uint8_t *block = log->bytes + place * BLOCK;
+
+    return block + zikhrodan_log_value(asked(block, position));
 }
 
 uint64_t log_first(const struct logfile *log, uint64_t bit)
