@@ -45,26 +45,44 @@ uint32_t log_power_up(struct logfile *log)
     return taken(log, &end, zikhrodan_log_power_up(end.bytes, end.len, end.used));
 }
 
-uint64_t log_number(const struct logfile *log, uint64_t place)
+static uint64_t asked(const uint8_t *block, uint64_t position)
 {
-    const uint8_t *at = log->bytes + place * BLOCK;
-
-    return (uint64_t)at[0] << 24 | (uint64_t)at[1] << 16 | (uint64_t)at[2] << 8 | at[3];
+    return zikhrodan_log_sample(block, BLOCK, 1, position);
 }
 
-static uint64_t asked(const struct logfile *log, uint64_t place, unsigned position)
+/* A position that no log has is refused by 15 before it is by 17. */
+bool blocks_sound(const uint8_t *bytes, uint64_t blocks)
 {
-    return zikhrodan_log_sample(log->bytes + place * BLOCK, BLOCK, 1, position);
+    uint64_t answer = zikhrodan_log_sample(bytes, blocks * BLOCK, blocks, UINT64_MAX);
+
+    return zikhrodan_log_refusal(answer) != ZIKHRODAN_UNSOUND_LOG;
+}
+
+uint64_t block_number(const uint8_t *block)
+{
+    return (uint64_t)block[0] << 24 | (uint64_t)block[1] << 16 | (uint64_t)block[2] << 8 | block[3];
+}
+
+unsigned block_count(const uint8_t *block)
+{
+    return block[COUNT_AT];
+}
+
+uint64_t log_number(const struct logfile *log, uint64_t place)
+{
+    return block_number(log->bytes + place * BLOCK);
 }
 
 unsigned log_count(const struct logfile *log, uint64_t place)
 {
-    return log->bytes[place * BLOCK + COUNT_AT];
+    return block_count(log->bytes + place * BLOCK);
 }
 
 const uint8_t *log_sample(const struct logfile *log, uint64_t place, unsigned position)
 {
-    return log->bytes + place * BLOCK + zikhrodan_log_value(asked(log, place, position));
+    const uint8_t *block = log->bytes + place * BLOCK;
+
+    return block + zikhrodan_log_value(asked(block, position));
 }
 
 uint64_t log_first(const struct logfile *log, uint64_t bit)

@@ -8,13 +8,21 @@
 
 #include "logfile.h"
 
+#include <stdbool.h>
 #include <stddef.h>
 
 /* Changes the log in memory; gives the refusal. */
 uint32_t log_add(struct logfile *log, const uint8_t *sample, size_t len);
 uint32_t log_power_up(struct logfile *log);
 
-/* Of the used block at a place, counted from 0: the number that it carries, how many samples it has, and one of these. */
+/* Whether so many blocks, all of them used, are a sound log: also one by itself. */
+bool blocks_sound(const uint8_t *bytes, uint64_t blocks);
+
+/* Of a sound block the number that it carries, and how many samples it has. */
+uint64_t block_number(const uint8_t *block);
+unsigned block_count(const uint8_t *block);
+
+/* Of the used block at a place, counted from 0: its number, how many samples it has, and one of these. */
 uint64_t log_number(const struct logfile *log, uint64_t place);
 unsigned log_count(const struct logfile *log, uint64_t place);
 const uint8_t *log_sample(const struct logfile *log, uint64_t place, unsigned position);

@@ -26,7 +26,7 @@ int log_look(struct logfile *log, const char *name)
     if (log->fd >= 0)
         close(log->fd);
     log->fd = -1;
-    return status ? status : settle(log);
+    return status ? status : settle(log, false);
 }
 
 /* Opens and locks the file that the name leads to, also where it led to another one before. */
@@ -69,7 +69,7 @@ int log_begin(struct logfile *log)
     if (status != 0 || (log->bytes && !log->stale && !log->damaged && memcmp(&had, &log->held, sizeof had) == 0))
         return status;
     status = read_blocks(log);
-    return status ? status : settle(log);
+    return status ? status : settle(log, true);
 }
 
 /* Step 2 has failed: the slot is wiped, and that is synced. */
@@ -81,6 +81,12 @@ static int take_back(const struct logfile *log)
         return fail("%s: %s; what was to be added may be in the log all the same", log->name, strerror(why));
     errno = why;
     return fail_errno(log->name);
+}
+
+/* Writes the slot that does not hold, or of two that say the same the second; -1 with errno set. */
+static int write_other(const struct logfile *log, const uint8_t bytes[SLOT_LEN])
+{
+    return write_at(log->fd, bytes, SLOT_LEN, !log->turn * SLOT_LEN);
 }
 
 static int commit(struct logfile *log)
@@ -96,12 +102,13 @@ static int commit(struct logfile *log)
     if (mend(log) != 0 || write_at(log->fd, block_at(log, had), (next.used - had) * BLOCK, log_length(had)) != 0 ||
         fdatasync(log->fd) != 0)
         return fail_errno(log->name);
-    if (write_at(log->fd, bytes, SLOT_LEN, !log->turn * SLOT_LEN) != 0 || fdatasync(log->fd) != 0)
+    if (write_other(log, bytes) != 0 || fdatasync(log->fd) != 0)
         return take_back(log);
     log->held = next;
     log->turn = !log->turn;
-    log->stale = log->damaged = log->told = false;
-    /* It is committed, whatever comes of this: where the block cannot be written, the next commit tries again. */
+    log->told = false;
+    /* It is committed, whatever comes of these: what cannot be written the next commit writes. */
+    log->stale = write_other(log, bytes) != 0;
     log->unplaced = write_at(log->fd, next.copy, BLOCK, log_length(next.place)) != 0;
     return 0;
 }

@@ -1,9 +1,10 @@
-/* loghead.h: the head of a log's file: two slots, written in turn, of which one holds.
+/* loghead.h: the head of a log's file: two slots, of which one holds; after a commit that was not cut off both say the same.
  *
  * A slot is 2048 bytes: the magic "zikhrodan log 1\n" (16 bytes), a serial number (8 bytes, high byte first), the number of
  * blocks of the file (8), the used number (8), the place of the copied block (8), a copy of that block (512), zeros, and in the
  * last 4 bytes a CRC-32 of those before it. Of the slots that are right and fit the file's length the one with the higher serial
- * number holds. A slot that was torn while it was written is not right, and then the other one, of the commit before, holds.
+ * number holds, and of two with the same number, which say the same, the first. A slot that is damaged, or was torn while it was
+ * written, is not right, and then the other one holds: of the same commit, or where one was cut off of that before it.
  * A slot is wiped by writing WIPED_FRONT over its first sector, which a disk does whole or not at all. */
 #ifndef LOGHEAD_H
 #define LOGHEAD_H

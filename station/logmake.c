@@ -8,15 +8,17 @@
 #include <fcntl.h>
 #include <unistd.h>
 
-/* Takes all room at once, so that a full disk is said now, and writes a head with no block used; -1 with errno set. */
+/* Takes all room at once, so that a full disk is said now, and writes a head with no block used, in both slots; -1 with errno
+ * set. */
 static int fill(int fd, uint64_t blocks)
 {
     const struct slot slot = {.serial = 1, .blocks = blocks};
-    uint8_t bytes[SLOT_LEN];
+    uint8_t head[HEAD_LEN];
 
     errno = posix_fallocate(fd, 0, log_length(blocks));
-    slot_write(&slot, bytes);
-    return errno != 0 || write_at(fd, bytes, sizeof bytes, 0) != 0 || fsync(fd) != 0 ? -1 : 0;
+    for (unsigned i = 0; i < SLOTS; i++)
+        slot_write(&slot, head + i * SLOT_LEN);
+    return errno != 0 || write_at(fd, head, sizeof head, 0) != 0 || fsync(fd) != 0 ? -1 : 0;
 }
 
 /* One that cannot be made whole is gone again. */

@@ -10,13 +10,13 @@ int open_log(struct logfile *log, int how);
 /* Finds the slot that holds, where both do the later one, and whether the other one is damaged. */
 int read_head(struct logfile *log);
 
-/* Reads the used blocks. */
+/* Reads the used blocks, and lays the copy over its block, unless the disk is ahead of it. */
 int read_blocks(struct logfile *log);
 
 uint8_t *block_at(const struct logfile *log, uint64_t place);
 
-/* Makes of what was read the log: lays the copy over its block, and asks the library. Says on standard error, once, that a slot
- * is damaged, where one is. */
-int settle(struct logfile *log);
+/* What the library says of what was read. Says on standard error, once, that a slot is damaged, where one is. A log whose disk is
+ * ahead is refused to who is `to_write`. */
+int settle(struct logfile *log, bool to_write);
 
 #endif

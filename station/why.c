@@ -76,26 +76,18 @@ const char *why_change(const struct logfile *log, uint32_t refusal)
                                          : "a new block is needed, and the last one's number is 4294967295";
 }
 
-/* Whether the first so many blocks, from one on, are a sound log. */
-static bool is_sound(const struct logfile *log, uint64_t first, uint64_t blocks)
-{
-    uint64_t answer = zikhrodan_log_sample(log->bytes + first * BLOCK, blocks * BLOCK, blocks, UINT64_MAX);
-
-    return zikhrodan_log_refusal(answer) != ZIKHRODAN_UNSOUND_LOG;
-}
-
 const char *why_unsound(const struct logfile *log)
 {
     uint64_t sound = 0, not_sound = log->used; /* so many blocks are a sound log, and so many are not */
 
     while (sound + 1 < not_sound) {
         uint64_t middle = sound + (not_sound - sound) / 2;
-        if (is_sound(log, 0, middle))
+        if (blocks_sound(log->bytes, middle))
             sound = middle;
         else
             not_sound = middle;
     }
-    if (is_sound(log, sound, 1))
+    if (blocks_sound(log->bytes + sound * BLOCK, 1))
         snprintf(text, sizeof text, "block %" PRIu64 " of the %" PRIu64 " used has number %" PRIu64 ", after number %" PRIu64,
                  sound + 1, log->used, log_number(log, sound), log_number(log, sound - 1));
     else

@@ -13,7 +13,9 @@ from station import BY_RUN, PATIENCE, PROGRAM, settled, zikhrodan
 OLD, NEW = rows_from(0, 20), rows_from(20, 15)
 ADD, POWER_UP = ("log", "add", "kept.log", "new.rows"), ("log", "power-up", "kept.log")
 SAMPLE = ("sample", "--log", "kept.log", "module.state", "new.rows")
-LAST_CALL = 5  # of an add to the log: the new blocks' write and sync, the head's, and the write of the last block in its place
+# Of an add to the log: the new blocks' write and sync, a slot's write and sync, and then the writes of the other slot and of the
+# last block in its place.
+SYNCED, MIRRORED, LAST_CALL = 4, 5, 6
 FIRST_KEPT = 10  # of those of demo's log, after a write and two syncs for each of three files
 FOUR_FILES = 'set -euo pipefail; . "$0"; way=${EMULATED:+$(emulator)}; ulimit -n 4; exec ${way:+"$way"} "$@"'
 SHOWS = ([("log", "show", "kept.log", *words) for words in ((), ("--from", "0"), ("--json",), ("--csv",))] +
@@ -52,7 +54,7 @@ def full(folder, checks):
 def failing(folder, checks, program):
     with checks.group("log new writes a head, syncs the file and then its folder; where one fails, there is no file") as group:
         folder.mkdir()
-        head = logs.slot(1, 3, 0, 0, bytes(logs.BLOCK))
+        head = 2 * logs.slot(1, 3, 0, 0, bytes(logs.BLOCK))
         seen, calls = recorded(folder, program, "log", "new", "new.log", 3)
         group.same("the calls", (0, "", [(0, head), "S", "D"]), (*seen[::2], calls))
         group.same("the file", head.ljust(logs.HEAD + 3 * logs.BLOCK, b"\0"), (folder / "new.log").read_bytes())
@@ -62,12 +64,14 @@ def failing(folder, checks, program):
             group.same(f"call {call}", (2, "", "zikhrodan: new.log: Input/output error\n"), seen)
             group.same(f"call {call}: files", ["told"], os.listdir(folder))
     commits(folder, checks, program)
-    with checks.group("a block that could not be put in its place after a commit is put there before the next one") as group:
-        path, _ = kept(folder)
-        (status, _, _), _ = recorded(folder, program, *ADD, "new.rows", RECORDED_FAILS="5")
-        group.same("two files", (0, OLD + NEW + NEW), (status, look(path)))
-        blocks = logs.blocks_of(OLD + NEW + NEW)
-        group.same("the blocks in their places", b"".join(blocks), path.read_bytes()[logs.HEAD:logs.HEAD + 512 * len(blocks)])
+    with checks.group("what could not be written after a commit, a slot or a block in its place, the next one writes") as group:
+        for call in (MIRRORED, LAST_CALL):
+            path, _ = kept(folder)
+            seen, _ = recorded(folder, program, *ADD, "new.rows", RECORDED_FAILS=str(call))
+            group.same(f"call {call}: two files", (0, "", OLD + NEW + NEW), (*seen[::2], look(path)))
+            run, blocks = path.read_bytes(), logs.blocks_of(OLD + NEW + NEW)
+            group.same(f"call {call}: the blocks in their places", b"".join(blocks), run[logs.HEAD:logs.HEAD + 512 * len(blocks)])
+            group.same(f"call {call}: the slots", run[:logs.SLOT], run[logs.SLOT:logs.HEAD])
 
 
 def commits(folder, checks, program):
@@ -77,7 +81,7 @@ def commits(folder, checks, program):
             for call in range(1, LAST_CALL + 1):
                 path, state = kept(folder)
                 (status, said, complaint), _ = recorded(folder, program, *words, RECORDED_FAILS=str(call))
-                done = call == LAST_CALL
+                done = call > SYNCED
                 group.same(f"{words}, call {call}", (0, "15 rows taken", "") if done else (2, "", failed + "\n"),
                            (status, said.split("\n")[0], complaint))
                 left = OLD + NEW if done else OLD
@@ -95,8 +99,8 @@ def commits(folder, checks, program):
                 group.same(f"{words}, calls {call} and {then}: the log and the state", (left, state),
                            (look(path), (folder / "module.state").read_bytes()))
     with checks.group("the log is written, the state is not, or may not last: which of the two is said") as group:
-        for call, state, first, last in ((6, None, "", "not"), (7, None, "", "not"),
-                                         (8, fed, "it is replaced, but may not last a loss of power: ", "too")):
+        for call, state, first, last in ((7, None, "", "not"), (8, None, "", "not"),
+                                         (9, fed, "it is replaced, but may not last a loss of power: ", "too")):
             path, old = kept(folder)
             seen, _ = recorded(folder, program, *SAMPLE, RECORDED_FAILS=str(call))
             group.same(f"call {call}", (2, "", f"zikhrodan: module.state: {first}Input/output error\n"
@@ -120,7 +124,7 @@ def keeping(folder, checks, program):
     with checks.group("demo --keep: a write of its log fails: one line, status 2, no log; who is asked to end waits") as group:
         group.same("the day", 1440, len(day))
         for call in range(FIRST_KEPT, FIRST_KEPT + 3 + LAST_CALL):
-            name, done = f"fails{call}", call == FIRST_KEPT + 2 + LAST_CALL
+            name, done = f"fails{call}", call > FIRST_KEPT + 2 + SYNCED
             (status, _, complaint), _ = recorded(folder, program, "demo", "--keep", name, RECORDED_FAILS=str(call))
             group.same(name, (0, "") if done else (2, f"zikhrodan: {name}/day.log: Input/output error\n"), (status, complaint))
             group.same(f"{name}: files", sorted(["day.log"] * done + ["day.rows", "factory.image", "module.state"]),

@@ -3,7 +3,8 @@
 What the tool writes and syncs is recorded (recorded.py). At each moment a file is put together as a disk could have it: what was
 written before the last sync is there, and of what was written after it each sector of 512 bytes is old or new, in any choice,
 and one of these may be neither. A log is then read from it in plain Python, some by the tool too; now and then the next command
-is run on one of them. What the test can see is tried on versions of the tool that are broken.
+is run on one of them. It begins with files whose later slot is torn in one sector alone. What the test can see is tried on
+versions of the tool that are broken.
 """
 import itertools
 import random
@@ -14,23 +15,32 @@ from log_kills import shown
 from recorded import build, recorded
 
 SECTOR, ROOM, RUNS, CHOICES, FEW = 512, 24, 150, 24, 5
+TORN = logs.SLOT // SECTOR
 BREAKS = {
     "the new blocks are not synced": [("log_length(had)) != 0 ||\n        fdatasync(log->fd) != 0)", "log_length(had)) != 0)")],
     "nothing is synced before the head where no block is new": [
         ("log_length(had)) != 0 ||\n        fdatasync(log->fd) != 0)",
          "log_length(had)) != 0 || (next.used > had && fdatasync(log->fd) != 0))")],
-    "the head is not synced": [("!log->turn * SLOT_LEN) != 0 || fdatasync(log->fd) != 0)", "!log->turn * SLOT_LEN) != 0)")],
+    "the head is not synced": [("write_other(log, bytes) != 0 || fdatasync(log->fd) != 0)", "write_other(log, bytes) != 0)")],
     "the head is written before the blocks": [
         ("write_at(log->fd, block_at(log, had), (next.used - had) * BLOCK, log_length(had)) != 0 ||",
-         "write_at(log->fd, bytes, SLOT_LEN, !log->turn * SLOT_LEN) != 0 ||"),
-        ("write_at(log->fd, bytes, SLOT_LEN, !log->turn * SLOT_LEN) != 0 || fdatasync(log->fd) != 0)\n        return take_back",
+         "write_other(log, bytes) != 0 ||"),
+        ("write_other(log, bytes) != 0 || fdatasync(log->fd) != 0)\n        return take_back",
          "write_at(log->fd, block_at(log, had), (next.used - had) * BLOCK, log_length(had)) != 0 || "
          "fdatasync(log->fd) != 0)\n        return take_back")],
-    "one slot is written again and again": [("    log->turn = !log->turn;\n", "    log->turn = 0;\n"),
-                                            ("!log->turn * SLOT_LEN) != 0 || fdatasync(log->fd) != 0)",
-                                             "log->turn * SLOT_LEN) != 0 || fdatasync(log->fd) != 0)")],
+    "the slot that holds is written first": [
+        ("write_other(log, bytes) != 0 || fdatasync(log->fd) != 0)",
+         "write_at(log->fd, bytes, SLOT_LEN, log->turn * SLOT_LEN) != 0 || fdatasync(log->fd) != 0)")],
+    "the other slot is written before the first is synced": [
+        ("write_other(log, bytes) != 0 || fdatasync(log->fd) != 0)",
+         "write_at(log->fd, bytes, SLOT_LEN, 0) != 0 || write_at(log->fd, bytes, SLOT_LEN, SLOT_LEN) != 0 || "
+         "fdatasync(log->fd) != 0)")],
     "the copy is not put in its place before a commit": [("(log->unplaced && write_at(", "(log->unplaced && false && write_at(")],
     "a damaged slot is not wiped": [("return log->damaged ? wipe_slot(log) : 0;", "return 0;")],
+    "a damaged slot is not wiped, but written over with the other one": [
+        ("return log->damaged ? wipe_slot(log) : 0;",
+         "uint8_t other[SLOT_LEN]; slot_write(&log->held, other); "
+         "return log->damaged ? write_at(log->fd, other, SLOT_LEN, !log->turn * SLOT_LEN) : 0;")],
     "the last block is written in its place first": [
         ("    slot_write(&next, bytes);\n",
          "    slot_write(&next, bytes);\n    write_at(log->fd, next.copy, BLOCK, log_length(next.place)); fdatasync(log->fd);\n"),
@@ -99,6 +109,14 @@ class Trial:
         self.path.write_bytes(run)
         self.disk, self.left = Disk(run), left_in(run)
 
+    def torn(self, sector):
+        """The machine starts with a file whose later slot was being written: it is whole but for a sector, which is neither."""
+        rows, lost = self.rows(20), self.rows(3)
+        blocks, later = logs.blocks_of(rows), logs.blocks_of(rows + lost)
+        slot = bytearray(logs.slot(6, ROOM, 2, 1, later[1]))
+        slot[sector * SECTOR:(sector + 1) * SECTOR] = self.chance.randbytes(SECTOR)
+        self.begin(logs.slot(5, ROOM, 2, 1, blocks[1]) + bytes(slot) + b"".join(blocks).ljust(ROOM * logs.BLOCK, b"\0"))
+
     def rows(self, count):
         """Rows that are like no other."""
         self.number += count
@@ -149,7 +167,9 @@ class Trial:
 
     def run(self, runs):
         """Whether it is broken."""
-        for number in range(runs):
+        for number in range(-TORN, runs):
+            if number < 0:
+                self.torn(number % TORN)
             self.crash()
             if self.wrong:
                 return True

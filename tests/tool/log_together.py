@@ -83,16 +83,18 @@ def pausing(folder, checks):
 
 
 def torn(folder, checks):
-    with checks.group("while an add waits for rows, another is cut off in the head: it says so, and goes on") as group:
-        path, rows = new_log(folder), rows_from(0, 2)
+    with checks.group("while an add waits for rows, another is cut off in the head: it says so each time, and goes on") as group:
+        path, rows = new_log(folder), rows_from(0, 3)
         process = start(folder, "log", "add", "kept.log", "-", stdin=subprocess.PIPE, bufsize=0)
-        process.stdin.write(rows[0])
-        group.same("a row is in the log", True, waits(lambda: look(path) == rows[:1]))
-        with path.open("r+b") as file:
-            file.seek(100)  # in the first slot; the second one holds
-            file.write(b"X")
-        out, complaint = process.communicate(rows[1], timeout=PATIENCE)
-        group.same("both rows", (0, b"2 rows taken", DAMAGE, rows),
+        for number, at in ((1, 100), (2, 3000)):  # in either slot
+            process.stdin.write(rows[number - 1])
+            group.same(f"row {number} is in the log", True, waits(lambda number=number: look(path) == rows[:number]))
+            with open(path, "r+b") as file:
+                fcntl.flock(file, fcntl.LOCK_EX)  # when the commit is done
+                file.seek(at)
+                file.write(b"X")
+        out, complaint = process.communicate(rows[2], timeout=PATIENCE)
+        group.same("all rows", (0, b"3 rows taken", 2 * DAMAGE, rows),
                    (process.returncode, out.split(b"\n")[0], complaint.decode(), look(path)))
 
 

@@ -19,6 +19,7 @@ import kills
 import links
 import log_costs
 import log_hardships
+import log_heads
 import log_kills
 import log_moments
 import log_outputs
@@ -41,8 +42,8 @@ import wrong_rows
 from bench import Checks, settle
 
 PARTS = {part.__name__: part for part in (manual, stored, examples, keys, plainly, eight, outputs, disk, synced, kills, together,
-                                           pauses, links, terminals, wrong_rows, log_kills, log_moments, log_power, log_together,
-                                           log_hardships, log_outputs, log_costs, decimals, died, died_hours, report,
+                                           pauses, links, terminals, wrong_rows, log_kills, log_moments, log_power, log_heads,
+                                           log_together, log_hardships, log_outputs, log_costs, decimals, died, died_hours, report,
                                            report_whole, report_drawn, report_looks, report_hardships)}
 
 
