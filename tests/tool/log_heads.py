@@ -161,9 +161,10 @@ def had_held(place, checks):
         dark = [sample(status=(4, 0, 0))]
         place.path.write_bytes(changed(old_form(rows_from(1, 3), rows_from(1, 3) + dark), logs.SLOT))
         line = ahead(1, 4, 3, "those on the disk are taken", 0)
-        group.same("died", (0, "Rx3 loss of signal: the line died at position 3, in block 1; the log has 4 samples\n", line),
+        group.same("died", (0, "Rx3 loss of signal: receive lane 3 lost light at position 3, in block 1; the log has 4 samples\n"
+                              "lit in the sample before; dark in this one\nbefore the log began it may have been dark too\n", line),
                    place.run("died", "kept.log", "rx3"))
-        group.same("report", (0, "page.html: 1 of 24 lines died, the first at position 3\n", line),
+        group.same("report", (0, "page.html: 1 of 4 receive lanes lost light; the first at position 3\n", line),
                    place.run("report", "kept.log", "-o", "page.html"))
         group.same("--json", True, '"damaged_slot": true' in place.run("died", "kept.log", "--json")[1])
 

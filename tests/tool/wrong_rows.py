@@ -32,7 +32,7 @@ TOLD = {
     **dict.fromkeys(("rows.txt", "eight-rows", "line.txt"), (DIGITS, DIGITS, DIGITS)),
     "read.txt": (TEXT, DIGITS, DIGITS),  # its first row is digits
     **dict.fromkeys(("show.txt", "show.json", "show-hex.txt", "eight.txt", "eight.json", "log.txt", "log.json", "log.csv",
-                     "died.txt", "died.json", "help.txt", "name.txt"), (TEXT, TEXT, TEXT)),
+                     "died.txt", "died.json", "report.txt", "help.txt", "name.txt"), (TEXT, TEXT, TEXT)),
 }
 PRINTED = {
     "show.txt": ("show", "used.state"), "show.json": ("show", "used.state", "--json"),
@@ -41,6 +41,7 @@ PRINTED = {
     "log.txt": ("log", "show", "day.log"), "log.json": ("log", "show", "day.log", "--json", "--count", "40"),
     "log.csv": ("log", "show", "day.log", "--csv", "--count", "40"),
     "died.txt": ("died", "day.log"), "died.json": ("died", "day.log", "--json"), "help.txt": ("log", "add", "--help"),
+    "report.txt": ("report", "day.log", "-o", "page.html"),
 }
 NAMED = "M\u00e5lestasjon \u2265 3: l\u00f8penummer \U0001d11e 17, og mer enn en rad\n"
 KEPT = {"day.log", "factory.image", "module.state", "day.rows", "eight.rows", "eight.state"}
@@ -63,7 +64,6 @@ def make(folder):
     day = (folder / "day.log").read_bytes()
     (folder / "wiped.log").write_bytes(WIPED + day[len(WIPED):])
     (folder / "second.log").write_bytes(b"X" + day[1:])
-    zikhrodan(folder, "report", "day.log", "-o", "page.html")
     (folder / "rows.txt").write_text((folder / "day.rows").read_bytes().hex(" ", 31).upper(), encoding="ascii")
     (folder / "eight-rows").write_text((folder / "eight.rows").read_bytes().hex(" ") + "\n", encoding="ascii")
     (folder / "line.txt").write_text(sample().hex(), encoding="ascii")
@@ -143,7 +143,8 @@ def right(target, group, made, words, length):
     for way in (lambda: target.run(*words, f"../made/{name}"), lambda: target.redirected(*words, path=made / name),
                 lambda: target.piped(*words, "-", run=run), lambda: target.run(*words, "--raw", f"../made/{name}")):
         target.taken(group, f"{words}, {name}", run, length, way())
-        left.append([run for run, _, _ in target.now()])
+        *states, log = [run for run, _, _ in target.now()]
+        left.append((states, logs.read(log)))  # of a log's head: how often a pipe pauses is the machine's matter
         target.begin()
     group.same(f"{words}: each way leaves the same", True, left == left[:1] * len(left))
     group.same(f"{words}: something is changed", True, left[0] != [run for run, _, _ in target.before])
