@@ -121,8 +121,9 @@ static void put_facts(FILE *page, const struct report *report)
         put_period(page, report->moments.period);
     put(page, "</dl>\n");
     if (report->log.damaged)
-        put(page, "<p class=\"note\">A slot of the log's head is damaged: unless a write was cut off, rows of the last commit"
-                  " may be missing.</p>\n");
+        put(page, "<p class=\"note\">A slot of the log's head is damaged%s</p>\n",
+            report->log.ahead ? ", and a block has more samples on the disk than in the other slot's copy: those on the disk are taken."
+                              : ": unless a write was cut off, rows of the last commit may be missing.");
 }
 
 void put_head(FILE *page, const struct report *report)

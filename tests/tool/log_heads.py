@@ -166,6 +166,8 @@ def had_held(place, checks):
                    place.run("died", "kept.log", "rx3"))
         group.same("report", (0, "page.html: 1 of 4 receive lanes lost light; the first at position 3\n", line),
                    place.run("report", "kept.log", "-o", "page.html"))
+        page = (place.path.parent / "page.html").read_text(encoding="utf-8")
+        group.same("the page", True, "more samples on the disk than in the other slot's copy: those on the disk are taken" in page)
         group.same("--json", True, '"damaged_slot": true' in place.run("died", "kept.log", "--json")[1])
 
 
