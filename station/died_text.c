@@ -118,7 +118,7 @@ static void print_summary(const struct died_view *view)
     for (unsigned i = 0; i < view->lines; i++)
         first |= view->deaths[i].died && view->deaths[i].position == 0;
     if (lost_words(died, summary)[0] == '\0') {
-        printf("no lane lost light, signal or lock, and none had a fault\n");
+        puts(NOTHING_LOST);
         return;
     }
     printf("%s%s%s\n", paint(BAD), summary, paint(PLAIN));

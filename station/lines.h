@@ -37,6 +37,9 @@ bool *lines_of(const uint8_t *sample, bool lines[LINES]);
 enum { LINES_ROOM = LINES * (NAME_ROOM + 2) };
 char *lines_words(const bool lines[LINES], char text[LINES_ROOM]);
 
+/* What is said where no sample has a bit. */
+#define NOTHING_LOST "no lane lost light, signal or lock, and none had a fault"
+
 /* How many lanes of how many lost what: "2 of 4 receive lanes lost light; 1 of 4 transmit lanes had a fault". Gives `text`. */
 char *lost_words(const bool lines[LINES], char text[LINES_ROOM]);
 

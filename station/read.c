@@ -37,8 +37,8 @@ static int read_command(int given, char **words)
     struct state state;
     uint64_t port, address, count;
 
-    if (!words_in(&given, words, options, &READ, 4, 4) || !port_in(words[1], &port) || !number_in(words[2], "the address", &address) ||
-        !number_in(words[3], "the count", &count))
+    if (!words_in(&given, words, options, &READ, 4, 4) || !port_in(words[1], &port) ||
+        !number_in(words[2], "the address", &address) || !number_in(words[3], "the count", &count))
         return USAGE_OR_FILE;
     int status = state_open(&state, words[0], NULL, IS_ERROR);
     if (status != DONE)

@@ -118,7 +118,7 @@ static void say_page(const struct report *report, const char *name)
     if (report->counts.samples == 0)
         puts("the log has no samples");
     else if (lines_in_order(report, order) == 0)
-        puts("no lane lost light, signal or lock, and none had a fault");
+        puts(NOTHING_LOST);
     else
         printf("%s; the first at position %" PRIu64 "\n", lost_in(report, lost), report->bands[order[0]].first - 1);
 }

@@ -13,7 +13,7 @@
 
 /* A light level has so many columns at most; what is shorter than one of so many parts of a picture is too short to be seen apart
  * from its neighbours; of dark stretches and of power-ups so many are listed; Rx power 1 to 4 and Tx power 1 to 4. */
-enum { COLUMNS = 2000, PARTS = 500, LISTED = 300, LEVELS = 8, KINDS = LINE_KINDS, CHANNELS_OF_A_KIND = LANES };
+enum { COLUMNS = 2000, PARTS = 500, LISTED = 300, LEVELS = 8 };
 
 /* What is drawn of a dark stretch: from its first sample up to the one after its last. Short stretches with nothing but short
  * gaps between them are one mark; so there are two for each part at most. */

@@ -6,13 +6,13 @@
 #include <inttypes.h>
 #include <string.h>
 
-enum { TOP = 20, HEADING = 22, PITCH = 18, BAND = 12, LOW = 7, KIND = HEADING + CHANNELS_OF_A_KIND * PITCH + 4,
-       BOTTOM = TOP + KINDS * KIND };
+enum { TOP = 20, HEADING = 22, PITCH = 18, BAND = 12, LOW = 7, KIND = HEADING + LANES * PITCH + 4,
+       BOTTOM = TOP + LINE_KINDS * KIND };
 
 /* Where a line's band begins. */
 static unsigned top_of(unsigned bit)
 {
-    return TOP + bit / CHANNELS_OF_A_KIND * KIND + HEADING + bit % CHANNELS_OF_A_KIND * PITCH;
+    return TOP + bit / LANES * KIND + HEADING + bit % LANES * PITCH;
 }
 
 /* Marks of one sort, each a rectangle, the next one's place counted from the one's before. */
@@ -85,7 +85,7 @@ static void put_kind(FILE *page, unsigned kind)
 {
     char name[NAME_ROOM];
 
-    line_name(kind * CHANNELS_OF_A_KIND, name, sizeof name);
+    line_name(kind * LANES, name, sizeof name);
     put(page, "<text x=\"0\" y=\"%u\" class=\"kind\">%.2s%s</text>\n", TOP + kind * KIND + HEADING - 8, name, name + 3);
 }
 
@@ -139,7 +139,7 @@ void put_bands(FILE *page, const struct report *report)
     put_stretched(page, report);
     if (lines_in_order(report, order) > 0)
         put(page, "<text x=\"100%%\" dx=\"8\" y=\"%u\" class=\"at\">first at position</text>\n", TOP - 2);
-    for (unsigned kind = 0; kind < KINDS; kind++)
+    for (unsigned kind = 0; kind < LINE_KINDS; kind++)
         put_kind(page, kind);
     for (unsigned bit = 0; bit < LINES; bit++)
         put_line(page, report, bit);

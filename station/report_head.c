@@ -85,8 +85,7 @@ static void put_answer(FILE *page, const struct report *report)
     if (samples == 0)
         put(page, "There is nothing to tell: the log has no samples.");
     else if (died == 0)
-        put(page, "No lane lost light, signal or lock, and none had a fault: no status bit is 1 in %s.",
-            samples == 1 ? "the one sample" : "any sample");
+        put(page, "No status bit is 1 in %s: " NOTHING_LOST ".", samples == 1 ? "the one sample" : "any sample");
     else
         put_deaths(page, report, order, died);
     put(page, "</p>\n");
@@ -121,9 +120,9 @@ static void put_facts(FILE *page, const struct report *report)
         put_period(page, report->moments.period);
     put(page, "</dl>\n");
     if (report->log.damaged)
-        put(page, "<p class=\"note\">A slot of the log's head is damaged%s</p>\n",
-            report->log.ahead ? ", and a block has more samples on the disk than in the other slot's copy: those on the disk are taken."
-                              : ": unless a write was cut off, rows of the last commit may be missing.");
+        put(page, "<p class=\"note\">A slot of the log's head is damaged%s.</p>\n",
+            report->log.ahead ? ", and a block has more samples on the disk than in the other slot's copy: those on the disk are taken"
+                              : ": unless a write was cut off, rows of the last commit may be missing");
 }
 
 void put_head(FILE *page, const struct report *report)

@@ -99,7 +99,10 @@ static bool is_image(const struct front *front)
 
 static bool is_memory(const struct front *front)
 {
-    static const bool changed[ZIKHRODAN_SAMPLE_LEN] = {[2] = true, [22] = true, [23] = true, [26] = true, [27] = true};
+    static const bool changed[ZIKHRODAN_SAMPLE_LEN] = {
+        [ZIKHRODAN_REG_STATUS] = true, [ZIKHRODAN_REG_TEMPERATURE] = true, [ZIKHRODAN_REG_TEMPERATURE + 1] = true,
+        [ZIKHRODAN_REG_SUPPLY] = true, [ZIKHRODAN_REG_SUPPLY + 1] = true,
+    };
     bool same = front->row_len == sizeof changed && front->len >= sizeof changed;
 
     for (size_t i = 0; i < sizeof changed && same; i++)

@@ -6,10 +6,10 @@ from itertools import product
 import logs
 from bench import IMAGE
 from browser import read
-from days import day, kept, row
+from days import day, row
 from disk import another, limited
 from outputs import WAYS, complaint, without_output
-from station import environment, zikhrodan
+from station import zikhrodan
 
 UNSOUND = "refused 15, block {} of the {} used is unsound"
 OLD = b"<!DOCTYPE html>old"

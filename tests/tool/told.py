@@ -105,8 +105,7 @@ class Told:
         if not self.samples:
             return "There is nothing to tell: the log has no samples."
         if not self.died:
-            return (f"{NOTHING_LOST.replace('no', 'No', 1)}: no status bit is 1 in "
-                    f"{'the one' if len(self.samples) == 1 else 'any'} sample.")
+            return f"No status bit is 1 in {'the one' if len(self.samples) == 1 else 'any'} sample: {NOTHING_LOST}."
         count, dark = self.dark_at_end()
         end = f"there {'is' if count == 1 else 'are'}: {dark}" if count else "none is dark"
         others = sum(position == self.died[0][0] for position, _ in self.died) - 1

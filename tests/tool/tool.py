@@ -10,6 +10,7 @@ from pathlib import Path
 
 import decimals
 import died
+import died_bounds
 import died_hours
 import disk
 import eight
@@ -20,14 +21,18 @@ import links
 import log_costs
 import log_hardships
 import log_heads
+import log_heads_old
 import log_kills
 import log_moments
 import log_outputs
 import log_power
 import log_together
 import manual
+import odd_rows
 import outputs
 import pauses
+import plain_json
+import plain_words
 import plainly
 import report
 import report_drawn
@@ -41,10 +46,11 @@ import together
 import wrong_rows
 from bench import Checks, settle
 
-PARTS = {part.__name__: part for part in (manual, stored, examples, keys, plainly, eight, outputs, disk, synced, kills, together,
-                                           pauses, links, terminals, wrong_rows, log_kills, log_moments, log_power, log_heads,
-                                           log_together, log_hardships, log_outputs, log_costs, decimals, died, died_hours, report,
-                                           report_whole, report_drawn, report_looks, report_hardships)}
+PARTS = {part.__name__: part for part in (manual, stored, examples, keys, plain_json, plain_words, plainly, eight, outputs, disk, synced,
+                                           kills, together, pauses, links, terminals, wrong_rows, odd_rows, log_kills, log_moments,
+                                           log_power, log_heads, log_heads_old, log_together, log_hardships, log_outputs, log_costs,
+                                           decimals, died, died_hours, died_bounds, report, report_whole, report_drawn,
+                                           report_looks, report_hardships)}
 
 
 def main(names):
