@@ -98,7 +98,8 @@ static bool sound_with_zeros(const uint8_t *page, size_t from, size_t len)
 
 struct codes_view ask_codes(const uint8_t page[ZIKHRODAN_PAGE_LEN])
 {
-    enum { FIRST_LEN = 192 - 128, SECOND_LEN = 224 - 192 };
+    enum { FIRST_LEN = ZIKHRODAN_REG_BASE_CODE + 1 - ZIKHRODAN_PAGE_LEN,
+           SECOND_LEN = ZIKHRODAN_REG_EXTENDED_CODE - ZIKHRODAN_REG_BASE_CODE };
 
     return (struct codes_view){
         .first = sound_with_zeros(page, FIRST_LEN, SECOND_LEN),

@@ -7,8 +7,6 @@
 
 #include <stdio.h>
 
-enum { SELECT_AT = 127 };
-
 static void page_title(unsigned page)
 {
     printf("\n%spage %02Xh: %s%s\n", paint(STRONG), page, PAGE_TITLES[page], paint(PLAIN));
@@ -56,8 +54,9 @@ static void page_as_read(const struct shown *shown, uint8_t page)
     uint64_t port = shown->ports[0].number;
     uint8_t selected, bytes[ZIKHRODAN_PAGE_LEN];
 
-    uint32_t answer = zikhrodan_write(copy.bytes, copy.len, port, SELECT_AT, &page, 1);
-    if (zikhrodan_refusal_of(answer) != ZIKHRODAN_ACCEPTED || !read_run(&copy, port, SELECT_AT, &selected, 1) || selected != page) {
+    uint32_t answer = zikhrodan_write(copy.bytes, copy.len, port, ZIKHRODAN_REG_PAGE_SELECT, &page, 1);
+    if (zikhrodan_refusal_of(answer) != ZIKHRODAN_ACCEPTED ||
+        !read_run(&copy, port, ZIKHRODAN_REG_PAGE_SELECT, &selected, 1) || selected != page) {
         printf("\n%spage %02Xh%s cannot be selected\n", paint(STRONG), page, paint(PLAIN));
         return;
     }
