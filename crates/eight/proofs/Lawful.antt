@@ -31,10 +31,14 @@ written_end a vs o k h = rw (covers_above (mask_of 0) masks.many k (omega arith)
 
 -- ---- all of it
 
+fresh_sound : sound (λ i. 0) ≡ true
+unfolding sound
+fresh_sound = refl
+
 pub lawful : Lawful eight
 lawful = record {
   image_rise = λ none. refl;
-  sound_fresh = λ none f. unfold sound in refl;
+  sound_fresh = λ none f. fresh_sound;
   sound_sample = λ f x o e. sound_raised f x o e;
   sound_read = λ f a n o e. sound_cleared a n o e;
   sound_puts = λ m p a vs g. record { both = give_elim (λ q o. sound o ≡ true) m.own p (written a vs (m.own p)) (sound_written a vs (m.own p) (g.both p)) g.both };

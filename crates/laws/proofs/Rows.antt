@@ -74,6 +74,7 @@ first_append ((n, true) ∷ xs) ys e = rw (not-true (eqb n 0) (and_left (not (eq
 first_append ((n, false) ∷ xs) ys e = first_append xs ys (and_right (not (eqb n 0)) (named xs) e)
 
 rising_above : (k : ℕ) (rs : List Row) → rising k rs ≡ true → (r : Row) → Memᴰ r rs → k < r.0
+rising_above k [] e r m = elim m [ ]
 rising_above k (s ∷ rs) e r m =
     let l = ltb-true k s.0 (and_left (ltb k s.0) (rising s.0 rs) e) in
     ⊎_elim (λ q. let z : r.0 ≡ s.0 = ap (λ (x : Row). x.0) q in omega arith)
@@ -81,6 +82,7 @@ rising_above k (s ∷ rs) e r m =
 
 -- the lowest of those that apply is given
 pub first_lowest : (k : ℕ) (rs : List Row) → rising k rs ≡ true → (r : Row) → Memᴰ r rs → r.1 ≡ true → first_of rs ≤ r.0
+first_lowest k [] e r m t = elim m [ ]
 first_lowest k ((n, true) ∷ rs) e r m t =
     ⊎_elim (λ z. let y : r.0 ≡ n = ap (λ (x : Row). x.0) z in omega arith)
     (λ z. let d = rising_above n rs (and_right (ltb k n) (rising n rs) e) r z in omega arith) (Memᴰ.cases_cons m)

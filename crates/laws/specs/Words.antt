@@ -10,7 +10,7 @@ pub use mathlib.Core.List.{List, [], ◌∷◌, Memᴰ as List-as-Memᴰ, Nodup 
 pub use Rattle.std.specs.Float.Ieee.{div, of_int}
 pub use Rattle.std.specs.Float.{binary64}
 pub use Rattle.std.specs.Float.Ieee.Exact.{HasValue}
-pub use Rattle.std.specs.Borrow.{Bor, MutBor}
+pub use Rattle.std.specs.Borrow.{Bor}
 pub use Rattle.laws.specs.Bits.{bit, has, splice}
 pub use Rattle.laws.specs.Lists.{at, table, patch, sum, part}
 pub use Rattle.laws.specs.Tests.{if◌then◌else◌, Row, first_of, covers, none_of, numbers_of, InOrder, Told, refused, given, told, one, Run, ◌to◌, within}

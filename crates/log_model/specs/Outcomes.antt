@@ -1,7 +1,6 @@
 -- What each call on a log promises, for every input: an equation for each thing that it leaves or answers.
 -- Assumes nothing.
-use Rattle.std.specs.Borrow.{Bor}
-use Rattle.laws.specs.Words.{ℕ, suc, ◌+◌, ◌≡◌, List, [], ◌∷◌, ◌++◌, eqb, get_or, if◌then◌else◌, Row, first_of, RefT, ptr, now}
+use Rattle.laws.specs.Words.{ℕ, suc, ◌+◌, ◌≡◌, List, [], ◌∷◌, ◌++◌, eqb, get_or, if◌then◌else◌, Row, first_of, Bor}
 use Rattle.block.specs.Block.{Bytes}
 use Rattle.log_model.specs.Log.{samples, last_number, place_of, after_power_up, after_add, used_after, add_rows, power_up_rows, sample_rows, Fit}
 
@@ -35,8 +34,8 @@ pub record Placed (log : List ℕ) (used k refusal start : ℕ) : Type 0 where
 
 -- the sample itself, a part of the log: its bytes, none where it is refused, and where it points; where a refused one points is not said
 pub record Shown (log : Bor (List ℕ)) (used k : ℕ) (r : Bor (List ℕ)) : Type 0 where
-  pub bytes_are : now r ≡ (if eqb (sample_refusal (now log) used k) 0 then get_or (samples (now log) used) k [] else [])
-  pub place_is : sample_refusal (now log) used k ≡ 0 → ptr r ≡ ((ptr log).0, place_of (now log) used k + (ptr log).1)
+  pub bytes_are : r.now ≡ (if eqb (sample_refusal log.now used k) 0 then get_or (samples log.now used) k [] else [])
+  pub place_is : sample_refusal log.now used k ≡ 0 → r.ref_ptr ≡ (log.ref_ptr.0, place_of log.now used k + log.ref_ptr.1)
 
 -- ---- a log over any calls
 

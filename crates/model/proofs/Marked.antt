@@ -92,6 +92,7 @@ holds (reads a k r) e = λ m n port ok out room.
 holds (writes n a k r) e = λ m ok vs len. rw (ok, len) (eqb-true (first_of ((2, nobody n) ∷ write_rows m n a k)) r (e m))
 
 all_hold : (rs : List Example) → ((m : State) → all_pass m rs ≡ true) → (r : Example) → Memᴰ r rs → Holds r
+all_hold [] e r i = elim i [ ]
 all_hold (q ∷ rs) e r i = ⊎_elim
     (λ z. subst Holds (sym z) (holds q (λ m. and_left (passes m q) (all_pass m rs) (e m))))
     (λ j. all_hold rs (λ m. and_right (passes m q) (all_pass m rs) (e m)) r j) (Memᴰ.cases_cons i)

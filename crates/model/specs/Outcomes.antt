@@ -1,7 +1,6 @@
 -- What each call promises, for every input: an equation for each thing that it leaves or answers.
 -- Assumes nothing.
-use Rattle.std.specs.Borrow.{Bor}
-use Rattle.laws.specs.Words.{ℕ, ◌+◌, ◌≡◌, List, length, eqb, Float, if◌then◌else◌, RefT, ptr, now}
+use Rattle.laws.specs.Words.{ℕ, ◌+◌, ◌≡◌, List, length, eqb, Float, if◌then◌else◌, Bor}
 pub use Rattle.laws.specs.Words.{Told, refused, given, told}
 use Rattle.ports.specs.Outcomes
 use Rattle.model.specs.Ports.{Call}
@@ -37,12 +36,12 @@ pub record Located (live factory : List ℕ) (f refusal page start long : ℕ) :
 
 -- the place i bytes on from where a reference points: the block of memory, and how far into it
 abbrev pub past : Bor (List ℕ) → ℕ → ℕ × ℕ
-past r i = ((ptr r).0, i + (ptr r).1)
+past r i = (r.ref_ptr.0, i + r.ref_ptr.1)
 
 -- the field itself, a part of the page it came from: its bytes, and where it points; where a refused view points is not said
 pub record Viewed (live factory : Bor (List ℕ)) (f : ℕ) (r : Bor (List ℕ)) : Type 0 where
-  pub bytes_are : now r ≡ view_of (now live) (now factory) f
-  pub place_is : identity_refusal (now live) (now factory) f ≡ 0 → ptr r ≡ past (if sound_page (now live) then live else factory) (field_start f)
+  pub bytes_are : r.now ≡ view_of live.now factory.now f
+  pub place_is : identity_refusal live.now factory.now f ≡ 0 → r.ref_ptr ≡ past (if sound_page live.now then live else factory) (field_start f)
 
 -- ---- monitors and limits
 

@@ -1,5 +1,7 @@
 // Bytes moved in lent memory: a run copied, filled or joined, and what two runs have in common.
 // Each contract is a `patch`: a run of places replaced, the rest as it was. No document is known here.
+#![tactic(auto)]
+
 ghost use Rattle.std.specs.Prelude.{◌≡◌, ◌+◌, ◌-◌, ◌≤◌, max, min, length};
 ghost use Rattle.std.specs.Int.Bits.{bit_or};
 ghost use Rattle.laws.specs.Tests.{if◌then◌else◌, covers};

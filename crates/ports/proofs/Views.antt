@@ -57,7 +57,7 @@ module _ {Image : Type 0} (M : Module Image) (L : Lawful M) where
 
   done_in : (p : Port) (m n : State) (c : CallOf Image) → concerns p c ≡ true → Same M p m n → Same M p (done M m c) (done M n c)
   unfolding done
-  done_in p m n (reset img) e h = record { own_same = refl; mem_same = L.Fresh-in p img m.mem n.mem h.mem_same }
+  done_in p m n (reset img) e h = record { own_same = refl; mem_same = L.fresh_in p img m.mem n.mem h.mem_same }
   done_in p m n (sample x) e h = record {
     own_same = ap₂ (λ (f : Places → Places) (o : Places). f o) (L.raised_in p x m.mem n.mem h.mem_same) h.own_same;
     mem_same = L.stored_in p x m.mem n.mem h.mem_same;
