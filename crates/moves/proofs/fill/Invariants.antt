@@ -1,7 +1,6 @@
--- After k turns the first k places have v and all else is as it was.
-use Rattle.std.proofs.Common.{◌≡◌}
+use Rattle.std.proofs.Common.{◌≡◌, ◌≤◌, length}
 use Rattle.laws.specs.Lists.{patch}
 use Rattle.moves.proofs.fill.Given as goal
 
 abbrev pub invariant-loop-k : goal.invariant-loop-k
-invariant-loop-k l = l.dst ≡ patch l.to l.k (λ j. l.v) l.fn.dst
+invariant-loop-k l = (l.k ≤ l.n) × (length l.dst ≡ length l.initial.dst) × (l.dst ≡ patch l.to l.k (λ j. l.v) l.initial.dst)
