@@ -2,6 +2,8 @@
 // name is registers.rt, the bits that a port may write classes.rt.
 // Nothing outside this crate can make a place: what it cannot name by a register, or by a port and a byte of its record, it cannot reach.
 // Proved: each function gives the definition that its contract cites (document 01, "The 688 bytes" and "Writing").
+#![tactic(auto)]
+
 ghost use Rattle.std.specs.Prelude.{◌≡◌, ◌<◌, ◌≤◌, ◌+◌, ◌*◌};
 ghost use Rattle.model.specs.Ports.{caller};
 ghost use Rattle.model.specs.Map.{memory_size, record_size, state_size, base, seat};

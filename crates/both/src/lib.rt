@@ -1,5 +1,7 @@
 // What the calls of both modules share: their answers, the refusals that go by the call's own numbers, the count over pairs of bytes.
 // Proved: each function gives the definition of ports that its contract cites, whatever the module.
+#![tactic(auto)]
+
 ghost use Rattle.std.specs.Prelude.{◌≡◌, not, ◌||◌, [], ◌∷◌, map, ◌<◌, ◌≤◌, ◌+◌, ◌*◌, ltb, length};
 ghost use Rattle.std.specs.Int.Bits.{bit_and, bit_xor};
 ghost use Rattle.std.specs.Int.Count.{ones};

@@ -1,5 +1,7 @@
 // One block of a log, on lent memory: whether it is sound, its number, and the blocks that are written.
 // Proved: each function gives the definition that its contract cites (document 02, Ask 1 and Ask 9).
+#![tactic(auto)]
+
 ghost use Rattle.std.specs.Prelude.{◌≡◌, ◌+◌, ◌*◌, ◌%◌, ◌<◌, ◌≤◌, length};
 ghost use Rattle.laws.specs.Lists.{at, part, table, patch, sum};
 ghost use Rattle.block.specs.Block.{block_size, sample_size, number, number_bytes, count_at, count, most_samples, room_end, any_to, summary, sealed, holds, has_summary, summed, checked, sound_block, fresh, grown};
