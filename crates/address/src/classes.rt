@@ -10,7 +10,7 @@ ghost use Rattle.address.specs.Meaning.{held_at, length_of, means};
 use super::{Place, Register, registers};
 
 // The bits of a byte that a write reaches.
-#[derive(Drop)]
+#[derive(Clone, Copy)]
 pub enum Class {
     Nothing,
     All,

@@ -13,7 +13,7 @@ use moves::Part;
 // ---- lanes
 
 // Addresses in a row whose bytes stand in a row, the first at `from`.
-#[derive(Drop)]
+#[derive(Clone, Copy)]
 pub struct Lane {
     hosts: HostRun,
     from: Place,

@@ -69,29 +69,29 @@ pub const SUPPLY_MASK_IN: usize = LOW_MASKS_IN + 4;
 // ---- addresses and places, and runs of either
 
 // A host address, 0 to 255.
-#[derive(Drop)]
+#[derive(Clone, Copy)]
 pub struct HostAddress(u8);
 
 // A place in the state, 0 to STATE_LEN - 1.
-#[derive(Drop)]
+#[derive(Clone, Copy)]
 pub struct Place(usize);
 
 // Host addresses in a row.
-#[derive(Drop)]
+#[derive(Clone, Copy)]
 pub struct HostRun {
     pub first: HostAddress,
     pub many: usize,
 }
 
 // Places in a row.
-#[derive(Drop)]
+#[derive(Clone, Copy)]
 pub struct PlaceRun {
     pub first: Place,
     pub many: usize,
 }
 
 // A register: its page, its first address and its last.
-#[derive(Drop)]
+#[derive(Clone, Copy)]
 pub struct Register(u8, u8, u8);
 
 pub fn host(a: u8) -> HostAddress
@@ -162,7 +162,7 @@ pub fn stored_at(a: HostAddress, page: u8) -> Place
 
 // Where an address leads: to a byte of the port's record (a flag byte, or a mask or the page), to a place of the memory, to byte 2, to
 // no place.
-#[derive(Drop)]
+#[derive(Clone, Copy)]
 pub enum Slot {
     Flag(usize),
     Mine(usize),
