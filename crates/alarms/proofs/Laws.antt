@@ -19,7 +19,7 @@ use Rattle.alarms.specs.Decoded.{rows, cell}
 
 -- what a signed local holds reads back as the number that it is
 held : {x a : ℤ} → mag x < 32768 → x ≡ a → to_z w16 (of_z w16 x) ≡ a
-held h e = to_z-of_z (record { sfits = h }) ∙ e
+held h e = to_z-of_z {w = w16} (record { sfits = h }) ∙ e
 
 -- 1 or 0 by a comparison of two signed locals that came to t
 pub below_as : (t : Bool) {x y a b : ℤ} → mag x < 32768 → x ≡ a → mag y < 32768 → y ≡ b → lt_z (to_z w16 (of_z w16 x)) (to_z w16 (of_z w16 y)) ≡ t

@@ -1,5 +1,7 @@
 // A sample decoded, the one alarm rule, and the flag bytes of a sample.
 // Proved: the twelve bytes are those of the definition `conds` (document 01, "Samples and conditions").
+#![tactic(auto)]
+
 ghost use Rattle.std.specs.Prelude.{◌≡◌, ◌+◌, ◌*◌, ◌<◌, ◌≤◌, pos, length};
 ghost use Rattle.std.specs.Int.Signed.{lt_z};
 ghost use Rattle.laws.specs.Tests.{if◌then◌else◌, one};

@@ -1,5 +1,7 @@
 // The check codes of a page: a running u8 by wrapping addition, its meaning the sum modulo 256.
 // Proved: each function gives the definition that its contract cites (document 01, "Reset").
+#![tactic(auto)]
+
 ghost use Rattle.std.specs.Prelude.{◌≡◌, ◌+◌, ◌-◌, ◌≤◌, length, ◌==◌};
 ghost use Rattle.laws.specs.Tests.{◌to◌};
 ghost use Rattle.laws.specs.Lists.{at, part};

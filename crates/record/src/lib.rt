@@ -1,5 +1,7 @@
 // A port's record in the state: soundness, the count, clearing, raising, entering a mask or a page.
 // Proved: each function gives the definition that its contract cites (document 01, "The 688 bytes", "Reading", "Writing").
+#![tactic(auto)]
+
 ghost use Rattle.std.specs.Prelude.{◌≡◌, ◌∷◌, ◌<◌, ◌≤◌, ◌+◌, length, set};
 ghost use Rattle.std.specs.Int.Bits.{bit_or};
 ghost use Rattle.laws.specs.Tests.{first_of};
