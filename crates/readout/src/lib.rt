@@ -1,5 +1,7 @@
 // Identity, monitors and limits: the calls that only read. Nothing need be checked first: each call refuses what it cannot take.
 // Proved: what each call answers is, for every input, the model's (document 01, "Identity, monitors, limits").
+#![tactic(auto)]
+
 ghost use Rattle.std.specs.Prelude.{◌≡◌, ◌<◌, ◌≤◌, length};
 ghost use Rattle.model.specs.Map.{page_size, state_size};
 ghost use Rattle.model.specs.Refusals.{identity_refusal};

@@ -1,0 +1,13 @@
+-- `module::reset::restore` meets its contract.
+use Rattle.std.proofs.Common.{length-set, rules}
+use Rattle.module.proofs.reset.Laws.{restore_all}
+use Rattle.module.proofs.reset.restore.Goals as goal
+
+-- TODO goal same-length
+-- same_length : tie.Need-same-length
+-- same_length c = simp length-set (search rules)
+
+pub returns : goal.returns
+returns c =
+    rw (c.index-status.ensures, c.place_of.ensures.0, c.empty.ensures)
+    (restore_all c.args.state.now c.requires.0 c.args.image.now _ c.bring.ensures)

@@ -1,0 +1,15 @@
+-- `module::sample::refusal_of` meets its contract.
+use Rattle.std.proofs.Common.{ne_eqb}
+use Rattle.ports.specs.Bytes
+use Rattle.model.specs.Bytes.{rows_of, refusal_of}
+use Rattle.ports.proofs.Taken.{sample_refusal_lem}
+use Rattle.model.specs.Module.{document01}
+use Rattle.module.proofs.sample.refusal_of.Goals as goal
+
+pub returns-then-state-ne-STATE_LEN : goal.returns-then-state-ne-STATE_LEN
+unfolding Bytes.refusal_of Bytes.rows_of
+returns-then-state-ne-STATE_LEN c = rw (ne_eqb _ _ c.if-state-ne-STATE_LEN.true)
+
+pub returns : goal.returns
+returns c =
+    rw (sample_refusal_lem document01 _ _ c.if-state-ne-STATE_LEN.false c.record_of.ensures.0 c.record_of-2.ensures.0 c.is_sound-first.ensures c.is_sound-second.ensures) c.sample_refusal.ensures
