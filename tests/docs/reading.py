@@ -17,8 +17,8 @@ def section(page, title):
     return found.group(2) if found else ""
 
 
-CRATES = re.findall(r"^(\w+):", text("crates.txt"), re.M)
-SIGNATURE = re.compile(r"^( *)(?:(?:unfoldable|abbrev|pub) )*(?:(?:record|data) )?([^\s(){}:]+)(?: [({].*)? :(?: |$)")
+CRATES = re.findall(r"^(\w+)(?: staticlib)?:", text("crates.txt"), re.M)
+SIGNATURE = re.compile(r"^( *)(?:(?:unfoldable|abbrev|pattern|pub) )*(?:(?:record|data) )?([^\s(){}:]+)(?: [({].*)? :(?: |$)")
 FUNCTION = re.compile(r'^( *)pub (?:extern "C" )?fn (\w+)[<(]')
 
 
