@@ -17,7 +17,8 @@ def section(page, title):
     return found.group(2) if found else ""
 
 
-SIGNATURE = re.compile(r"^( *)(?:(?:unfoldable|abbrev|pub) )*(?:(?:record|data) )?([^\s(){}:]+)(?: [({].*)? :(?: |$)")
+CRATES = re.findall(r"^(\w+)(?: staticlib)?:", text("crates.txt"), re.M)
+SIGNATURE = re.compile(r"^( *)(?:(?:unfoldable|abbrev|pattern|pub) )*(?:(?:record|data) )?([^\s(){}:]+)(?: [({].*)? :(?: |$)")
 FUNCTION = re.compile(r'^( *)pub (?:extern "C" )?fn (\w+)[<(]')
 
 
@@ -61,23 +62,30 @@ def words_of(path, name):
     return set(re.findall(r"[^\s(){};,.\[\]]+", said)) - bound - {name}
 
 
+def is_own(module):
+    """Whether a module is one of this repository's crates', and none of the toolchain's library."""
+    found = re.match(r"Rattle\.(\w+)\.(?:specs|proofs)\.", module)
+    return bool(found) and found.group(1) in CRATES
+
+
 def taken(path):
-    """What a file takes by name: (module, name) of each."""
+    """What a file takes by name: (module, name there, name here) of each."""
     found = re.findall(r"^(?:unfoldable )?(?:pub )?use (\S+)\.\{([^}]*)\}", path.read_text(encoding="utf-8"), re.M)
-    return [(module, word.strip()) for module, words in found for word in words.split(",")]
+    names = [(module, word.strip().split(" as ")) for module, words in found for word in words.split(",")]
+    return [(module, word[0], word[-1]) for module, word in names]
 
 
 def proved_names(path):
     """What a file of proofs declares by itself, or takes from another one; a module of proofs by its own name."""
     content = path.read_text(encoding="utf-8")
     names = {found.group(2) for found in map(SIGNATURE.match, content.splitlines()) if found} - {"→", "×", "≡"}
-    names |= {word for module, word in taken(path) if module.startswith("Rattle·") and "proofs." in module}
-    return names | set(re.findall(r"^use Rattle·\S*proofs\.(\w+)$", content, re.M))
+    names |= {word for module, _, word in taken(path) if is_own(module) and ".proofs." in module}
+    return names | {module.split(".")[-1] for module in re.findall(r"^use (\S+\w)$", content, re.M) if is_own(module) and ".proofs." in module}
 
 
 def has_word(words, name):
-    """Whether a word of the library is among them: one such as _≡_ by its first sign."""
-    return next((part for part in name.split("_") if part), name) in words
+    """Whether a word of the library is among them: one such as ◌≡◌ by its first sign."""
+    return next((part for part in name.split("◌") if part), name) in words
 
 
 def tables(page):

@@ -1,4 +1,4 @@
--- What the functions that C calls promise: the contracts of ports/specs, model/specs and log/specs, the numbers packed into one.
+-- What the functions that C calls promise: the contracts of ports/specs, model/specs and log_model/specs, the numbers packed into one.
 -- Assumes nothing.
 use Rattle.laws.specs.Words.{ℕ, suc, ◌/◌, ◌%◌, ◌<◌, ◌≡◌, List, Option, none, some}
 use Rattle.ports.specs.Ports.{CallOf}
