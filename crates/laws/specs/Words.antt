@@ -6,7 +6,7 @@ pub use Rattle.std.specs.Int.Bits.{bit_or, bit_and, bit_xor}
 pub use Rattle.std.specs.Int.Count.{ones}
 pub use Rattle.std.specs.Int.Signed.{non_neg, lt_z}
 pub use Rattle.std.proofs.Math.Option.{Option, none, some}
-pub use mathlib.Core.List.{List, [], ◌∷◌, Memᴰ as List-as-Memᴰ, Nodup as List-as-Nodup, ◌++◌, map}
+pub use mathlib.Core.List.{List, [], ◌∷◌, Memᴰ, Nodup, ◌++◌, map}
 pub use Rattle.std.specs.Float.Ieee.{div, of_int}
 pub use Rattle.std.specs.Float.{binary64}
 pub use Rattle.std.specs.Float.Ieee.Exact.{HasValue}
