@@ -26,6 +26,6 @@ count_of-requires c = let t = taken c in search rules
 
 pub returns : goal.returns
 returns c =
-    let e = c.record_of.ensures.0 {-TODO step record_of at After-slice_known-} in
+    let e = c.record_of-base.ensures.0 in
     let h = c.host.ensures in
-    read_done _ _ _ _ _ k.before.before.before.before.requires {-TODO past start-} _ _ _ _ e (rw e (rw h at c.clear-own.ensures {-TODO step clear-own at After-clear_own-arg-})) c.count_of.ensures (rw h at c.look.ensures {-TODO step look at After-look-arg-})
+    read_done _ _ _ _ _ c.requires _ _ _ _ e (rw e (rw h at c.clear_own.ensures)) c.count_of.ensures (rw h at c.look.ensures)

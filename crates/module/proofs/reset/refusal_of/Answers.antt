@@ -18,11 +18,11 @@ returns-then-image-ne-MEMORY_LEN c = rw (eq-eqb _ _ c.if-state-ne-STATE_LEN.fals
 pub returns-then-are_right : goal.returns-then-are_right
 unfolding Bytes.refusal_of Bytes.rows_of Modules.rows
 returns-then-are_right c =
-    let p = c.places_of.ensures {-TODO step places_of at After-index-arg-} in
-    rw (eq-eqb _ _ c.if1.false {-TODO step if1 at Else2-}, eq-eqb _ _ c.if2.false {-TODO step if2 at After-places_of-}, ← rw (c.index-start.ensures, p.0, p.1) at c.are_right.ensures, c.if-are_right.true)
+    let p = c.places_of-page.ensures in
+    rw (eq-eqb _ _ c.if-state-ne-STATE_LEN.false, eq-eqb _ _ c.if-image-ne-MEMORY_LEN.false, ← rw (c.index-start.ensures, p.0, p.1) at c.are_right.ensures, c.if-are_right.true)
 
 pub returns : goal.returns
 unfolding Bytes.refusal_of Bytes.rows_of Modules.rows
 returns c =
-    let p = c.places_of.ensures {-TODO step places_of at After-index-arg-} in
-    rw (eq-eqb _ _ c.if1.false {-TODO step if1 at Else2-}, eq-eqb _ _ c.if2.false {-TODO step if2 at After-places_of-}, ← rw (c.index-start.ensures, p.0, p.1) at c.are_right.ensures, c.if-are_right.false)
+    let p = c.places_of-page.ensures in
+    rw (eq-eqb _ _ c.if-state-ne-STATE_LEN.false, eq-eqb _ _ c.if-image-ne-MEMORY_LEN.false, ← rw (c.index-start.ensures, p.0, p.1) at c.are_right.ensures, c.if-are_right.false)

@@ -17,7 +17,7 @@ page_of-page-requires c =
 pub write_bytes-requires : goal.write_bytes-requires
 write_bytes-requires c =
     let h = write_taken c.args.state.now c.args.port c.args.address c.args.bytes.now c.requires in
-    (h.0, rw (c.page_of-page.ensures, c.record_of.ensures.0 {-TODO step record_of at After-host-}) h.1, rw c.host.ensures {-TODO step host at After-shared_slice_known-} h.2, refl)
+    (h.0, rw (c.page_of-page.ensures, c.record_of-base.ensures.0) h.1, rw c.host.ensures h.2, refl)
 
 pub count_of-requires : goal.count_of-requires
 count_of-requires c =
@@ -26,5 +26,5 @@ count_of-requires c =
 
 pub returns : goal.returns
 returns c =
-    write_done c.args.state.now c.args.port c.args.address c.args.bytes.now c.requires c.write_bytes.new.0 {-TODO step write_bytes at After-write_bytes-arg-} c.count_of.result
-    (rw (c.host.ensures {-TODO step host at After-slice_known-}, c.page-of.ensures {-TODO step page-of at After-record_of-}, c.record_of.ensures.0 {-TODO step record_of at After-shared_slice_known-}) at c.write_bytes.ensures {-TODO step write_bytes at After-write_bytes-arg-}) (rw c.record_of.ensures.0 {-TODO step record_of at After-shared_slice_known-} at c.count_of.ensures)
+    write_done c.args.state.now c.args.port c.args.address c.args.bytes.now c.requires c.write_bytes.new.state c.count_of.result
+    (rw (c.host.ensures, c.page_of-page.ensures, c.record_of-base.ensures.0) at c.write_bytes.ensures) (rw c.record_of-base.ensures.0 at c.count_of.ensures)
