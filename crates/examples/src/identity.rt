@@ -1,29 +1,30 @@
 // The identity of the image, by its three calls.
 use crate::print;
+use std::io;
 
-fn field(page: &[u8], name: &[u8], number: u64) {
+fn field(rt: &impl Print, page: &[u8], name: &[u8], number: u64) -> io::Result<()> {
     let place = readout::identity_place(page, page, number);
     let refusal = readout::identity_refusal(page, page, number);
     let view = readout::identity_view(page, page, number);
-    print::text(name);
-    print::text(b": refusal");
-    print::number(place.refusal as u64);
-    print::number(refusal as u64);
-    print::text(b", page, start and length");
-    print::number(place.page as u64);
-    print::number(place.start as u64);
-    print::number(place.length as u64);
-    print::text(b":");
-    print::bytes(view);
-    print::end();
+    print::text(rt, name)?;
+    print::text(rt, b": refusal")?;
+    print::number(rt, place.refusal as u64)?;
+    print::number(rt, refusal as u64)?;
+    print::text(rt, b", page, start and length")?;
+    print::number(rt, place.page as u64)?;
+    print::number(rt, place.start as u64)?;
+    print::number(rt, place.length as u64)?;
+    print::text(rt, b":")?;
+    print::bytes(rt, view)?;
+    print::end(rt)
 }
 
-pub fn fields(page: &[u8]) {
-    field(page, b"vendor name", 1);
-    field(page, b"vendor OUI", 2);
-    field(page, b"part number", 3);
-    field(page, b"revision", 4);
-    field(page, b"serial number", 5);
-    field(page, b"date code", 6);
-    field(page, b"field 7", 7);
+pub fn fields(rt: &impl Print, page: &[u8]) -> io::Result<()> {
+    field(rt, page, b"vendor name", 1)?;
+    field(rt, page, b"vendor OUI", 2)?;
+    field(rt, page, b"part number", 3)?;
+    field(rt, page, b"revision", 4)?;
+    field(rt, page, b"serial number", 5)?;
+    field(rt, page, b"date code", 6)?;
+    field(rt, page, b"field 7", 7)
 }

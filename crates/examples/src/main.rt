@@ -3,6 +3,8 @@
 // bytes come on standard input; what is to be printed stands in `stdout`. The long tables of calls are tests/vectors'.
 //
 // Proved: it is safe and ends. What the calls answer is their own contracts'.
+#![tactic(auto)]
+
 mod eight;
 mod identity;
 mod log;
@@ -10,19 +12,17 @@ mod print;
 mod steps;
 mod table;
 
-use libc::STDIN_FILENO;
+use std::io::{self, Read};
 
-fn main() {
+fn main(rt: HostRuntime) -> io::Result<()> {
     let mut image = [0u8; 640];
-    let n = io::read_full(STDIN_FILENO, &mut image);
-    if n != 640 {
-        print::text(b"standard input is no image of 640 bytes\n");
-        return;
+    if rt.stdin().read_exact(&mut image).is_err() {
+        return print::text(&rt, b"standard input is no image of 640 bytes\n");
     }
-    table::flags(&image);
-    steps::edges(&image);
-    steps::start_up(&image);
-    identity::fields(&image[128..256]);
-    log::story();
-    eight::story();
+    table::flags(&rt, &image)?;
+    steps::edges(&rt, &image)?;
+    steps::start_up(&rt, &image)?;
+    identity::fields(&rt, &image[128..256])?;
+    log::story(&rt)?;
+    eight::story(&rt)
 }

@@ -1,61 +1,67 @@
-// What is printed.
-use libc::STDOUT_FILENO;
+// What is printed. Each function ends at the first write that fails, with its error.
+use std::io;
 
 // Text as it is.
-pub fn text(words: &[u8]) {
-    io::write_all(STDOUT_FILENO, words);
+pub fn text(rt: &impl Print, words: &[u8]) -> io::Result<()> {
+    rt.write_all(words)
 }
 
 // A number in decimal, after a blank.
-pub fn number(n: u64) {
-    text(b" ");
-    io::print_decimal(STDOUT_FILENO, n);
+pub fn number(rt: &impl Print, n: u64) -> io::Result<()> {
+    print!(rt; " {n}")
 }
 
 // A byte in hex, after a blank.
-fn byte(b: u8) {
-    text(b" ");
-    io::print_hex(STDOUT_FILENO, b as u64, 2);
+fn byte(rt: &impl Print, b: u8) -> io::Result<()> {
+    print!(rt; " {b:02x}")
 }
 
 // Bytes in hex, each after a blank.
-pub fn bytes(bs: &[u8]) {
+pub fn bytes(rt: &impl Print, bs: &[u8]) -> io::Result<()> {
     for k in 0..bs.len() {
-        byte(bs[k]);
+        byte(rt, bs[k])?;
     }
+    Ok(())
 }
 
 // The bit pattern of an f64, if it is no NaN.
-pub fn pattern(x: f64) {
+pub fn pattern(rt: &impl Print, x: f64) -> io::Result<()> {
     if x == x {
-        io::print_hex(STDOUT_FILENO, f64::to_bits(x), 16);
+        print!(rt; "{:016x}", x.to_bits())?;
     }
+    Ok(())
 }
 
-pub fn end() {
-    text(b"\n");
+pub fn end(rt: &impl Print) -> io::Result<()> {
+    println!(rt)
 }
 
 // ---- what the calls answer
 
 // Of a reset or a sample.
-pub fn counts(name: &[u8], refusal: u8, operator: u8, recorder: u8) {
-    text(name);
-    text(b": refusal");
-    number(refusal as u64);
-    text(b", counts");
-    number(operator as u64);
-    number(recorder as u64);
-    end();
+pub fn counts(
+    rt: &impl Print,
+    name: &[u8],
+    refusal: u8,
+    operator: u8,
+    recorder: u8,
+) -> io::Result<()> {
+    text(rt, name)?;
+    text(rt, b": refusal")?;
+    number(rt, refusal as u64)?;
+    text(rt, b", counts")?;
+    number(rt, operator as u64)?;
+    number(rt, recorder as u64)?;
+    end(rt)
 }
 
 // Of a read, with what it put into `out`, or of a write, with nothing.
-pub fn count(name: &[u8], refusal: u8, n: u8, out: &[u8]) {
-    text(name);
-    text(b": refusal");
-    number(refusal as u64);
-    text(b", count");
-    number(n as u64);
-    bytes(out);
-    end();
+pub fn count(rt: &impl Print, name: &[u8], refusal: u8, n: u8, out: &[u8]) -> io::Result<()> {
+    text(rt, name)?;
+    text(rt, b": refusal")?;
+    number(rt, refusal as u64)?;
+    text(rt, b", count")?;
+    number(rt, n as u64)?;
+    bytes(rt, out)?;
+    end(rt)
 }
