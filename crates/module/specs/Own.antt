@@ -1,6 +1,6 @@
 -- What the read puts over the bytes of the memory, in the order in which it does.
 -- Assumes nothing.
-use Rattle.laws.specs.Words.{ℕ, ◌+◌, ◌-◌, List, at, eqb, if◌then◌else◌, ◌to◌, covers, within}
+use Rattle.laws.specs.Words.{ℕ, eqb, if◌then◌else◌, ◌to◌, within}
 use Rattle.model.specs.Ports.{Places}
 use Rattle.model.specs.Map.{flags, low_masks, flag_of, low_mask_of, page_at}
 

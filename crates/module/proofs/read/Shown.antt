@@ -15,7 +15,7 @@ use Rattle.laws.specs.Lists.{at, patch}
 use Rattle.laws.proofs.Tests.{case, covers_in, covers_below, covers_one}
 use Rattle.laws.proofs.Lists.{patch_same}
 use Rattle.laws.proofs.Fronts.{front_over, front_four, front_self, front_set}
-use Rattle.model.specs.Map.{page_size, paged, memory_size, status_at, flags, low_masks, high_masks, flag_of, low_mask_of, high_mask_of, page_at, record_size, seat}
+use Rattle.model.specs.Map.{page_size, paged, memory_size, status_at, flags, low_masks, high_masks, flag_of, low_mask_of, high_mask_of, page_at, seat}
 use Rattle.model.specs.Reading.{status_byte, look, seen}
 use Rattle.model.specs.Module.{document01}
 use Rattle.model.specs.Bytes.{memory_of, record_of}

@@ -2,19 +2,20 @@
 -- one. Refusal 5 as the code tests it, and what an accepted write relies on.
 -- Assumes nothing.
 use mathlib.Core.Path.{◌≡◌, refl, sym, ap, ◌∙◌}
-use mathlib.Core.Bool.{false, ◌&&◌, ◌||◌}
+use mathlib.Core.Bool.{false, ◌&&◌}
+use mathlib.Core.Logic.{◌⊎◌, inl, inr}
 use mathlib.Core.Option.{some}
 use mathlib.Core.List.{List, [], ◌∷◌}
 use Prim.Native.Nat.{ℕ, zero, suc, ◌+◌, ◌-◌, ◌≤◌, ◌<◌}
 use native.Mathlib.Omega.{arith}
-use lib.Dec.{eqb, ltb}
+use lib.Dec.{eqb}
 use lib.ListN.{length, set, take, length-set}
 use lib.Seq.{take_all}
 use types.Run.{OneOf, miss}
 use denote.Enum.Declared.{tag_of}
-use borrow.Author.Tests.{eqb-true, eqb-false, ltb-false, not-true}
+use borrow.Author.Tests.{eqb-true, eqb-false, not-true}
 use Rattle.laws.specs.Lists.{at}
-use Rattle.laws.proofs.Tests.{case, and_left, and_right, or_left, or_right, sub_ltb}
+use Rattle.laws.proofs.Tests.{case, and_left, and_right, or_left}
 use Rattle.laws.proofs.Rows.{first_none}
 use Rattle.laws.proofs.Lists.{at_set}
 use Rattle.address.specs.Meaning.{seat_of}
@@ -26,13 +27,13 @@ use Rattle.ports.specs.Effects
 use Rattle.ports.specs.Modules
 use Rattle.model.specs.Ports.{Port, caller, State, write}
 use Rattle.model.specs.Map.{state_size, base, page_at, Seat, seat}
-use Rattle.model.specs.Refusals.{miscounted, across, is_mine, all_mine}
+use Rattle.model.specs.Refusals.{is_mine, all_mine}
 use Rattle.model.specs.Writing.{class_of, written, store, puts}
 use Rattle.model.specs.Interrupt.{count}
 use Rattle.model.specs.Bytes.{memory_of, record_of, state_of, bytes_of, rows_of, refusal_of}
 use Rattle.model.specs.Outcomes.{WriteDone}
 use Rattle.model.specs.Demands.{seat_place}
-use Rattle.model.proofs.Names.{rows, beyond, done, place}
+use Rattle.model.proofs.Names.{place}
 use Rattle.model.proofs.Fits.{fits_of, fits_puts}
 use Rattle.model.proofs.Bytes.{state_bytes, place_state, bytes_by_place, bytes_state}
 use Rattle.model.proofs.Writes.{Within, store_hit, store_miss, accepted_range}
@@ -72,13 +73,11 @@ module _ (s : List ℕ) (p : Port) (v : ℕ) (long : length s ≡ state_size) wh
       (λ q. rw q (sym (place_state s j l) ∙ sym (store_miss (state_of s) p v t j l (λ z. eqb-false j i q cc)))))
 
   -- a slot that takes no byte
-  pub slot_kept : (r : Slot) → OneOf (0 ∷ 3 ∷ 4 ∷ []) (tag_of the_type r) → s ≡ bytes_of (store (state_of s) p v (seat_of r))
+  pub slot_kept : (r : Slot) → ((k : ℕ) × r ≡ Flag k) ⊎ (r ≡ Status ⊎ r ≡ Blank) → s ≡ bytes_of (store (state_of s) p v (seat_of r))
   unfolding store
-  slot_kept (Flag k) o = sym (bytes_state s long)
-  slot_kept (Mine k) o = absurd (miss (0 ∷ 3 ∷ 4 ∷ []) 1 tt o)
-  slot_kept (Common q) o = absurd (miss (0 ∷ 3 ∷ 4 ∷ []) 2 tt o)
-  slot_kept Status o = sym (bytes_state s long)
-  slot_kept Blank o = sym (bytes_state s long)
+  slot_kept r (inl (k, e)) = rw e (sym (bytes_state s long))
+  slot_kept r (inr (inl e)) = rw e (sym (bytes_state s long))
+  slot_kept r (inr (inr e)) = rw e (sym (bytes_state s long))
 
 -- ---- the bytes of a write
 

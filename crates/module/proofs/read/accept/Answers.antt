@@ -1,28 +1,23 @@
 -- `module::read::accept` meets its contract: that it is not refused gives what the callees ask for; the bytes are shown from the state
 -- as it was, and only then are its flags cleared.
-use Rattle.std.proofs.Common.{refl, length, rules}
-use Rattle.module.proofs.read.Laws.{Taken, read_taken, read_done}
+use Rattle.std.proofs.Common.{refl, rules}
+use Rattle.module.proofs.read.Laws.{read_taken, read_done}
 use Rattle.module.proofs.read.accept.Goals as goal
-
--- what the needs rely on
-taken : (c : goal.After-record_of-base) → let x = c.args in Taken x.state.now c.record_of-base.result.0 x.address x.count (length x.out.now)
-taken c = read_taken _ _ _ _ _ _ c.requires c.record_of-base.ensures.0
--- TODO helper over a place
 
 pub overflow_cast-address : goal.overflow_cast-address
 overflow_cast-address c = let t = read_taken _ _ _ _ _ _ c.requires refl in search rules
 
 pub page_of-page-requires : goal.page_of-page-requires
-page_of-page-requires c = let t = taken c in search rules
+page_of-page-requires c = let t = read_taken _ _ _ _ _ _ c.requires c.record_of-base.ensures.0 in search rules
 
 pub look-requires : goal.look-requires
-look-requires c = let t = taken c in search rules
+look-requires c = let t = read_taken _ _ _ _ _ _ c.requires c.record_of-base.ensures.0 in search rules
 
 pub clear_own-requires : goal.clear_own-requires
-clear_own-requires c = let t = taken c in search rules
+clear_own-requires c = let t = read_taken _ _ _ _ _ _ c.requires c.record_of-base.ensures.0 in search rules
 
 pub count_of-requires : goal.count_of-requires
-count_of-requires c = let t = taken c in search rules
+count_of-requires c = let t = read_taken _ _ _ _ _ _ c.requires c.record_of-base.ensures.0 in search rules
 
 pub returns : goal.returns
 returns c =

@@ -3,8 +3,6 @@ use Rattle.std.proofs.Common.{ne_eqb, length}
 use Rattle.ports.specs.Bytes
 use Rattle.ports.specs.Modules
 use Rattle.model.specs.Refusals.{read_rows}
-use Rattle.model.specs.Bytes.{rows_of, refusal_of}
-use Rattle.model.proofs.Names.{rows}
 use Rattle.model.specs.Module.{document01}
 use Rattle.ports.proofs.Taken.{port_first}
 use Rattle.module.proofs.read.refusal_of.Goals as goal

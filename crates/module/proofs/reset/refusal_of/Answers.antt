@@ -3,8 +3,6 @@
 use Rattle.std.proofs.Common.{eq-eqb, ne_eqb}
 use Rattle.ports.specs.Bytes
 use Rattle.ports.specs.Modules
-use Rattle.model.specs.Bytes.{rows_of, refusal_of}
-use Rattle.model.proofs.Names.{rows}
 use Rattle.module.proofs.reset.refusal_of.Goals as goal
 
 pub returns-then-state-ne-STATE_LEN : goal.returns-then-state-ne-STATE_LEN

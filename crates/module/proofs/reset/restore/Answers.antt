@@ -1,5 +1,4 @@
 -- `module::reset::restore` meets its contract.
-use Rattle.std.proofs.Common.{length-set, rules}
 use Rattle.module.proofs.reset.Laws.{restore_all}
 use Rattle.module.proofs.reset.restore.Goals as goal
 

@@ -1,7 +1,6 @@
 -- `module::sample::refusal_of` meets its contract.
 use Rattle.std.proofs.Common.{ne_eqb}
 use Rattle.ports.specs.Bytes
-use Rattle.model.specs.Bytes.{rows_of, refusal_of}
 use Rattle.ports.proofs.Taken.{sample_refusal_lem}
 use Rattle.model.specs.Module.{document01}
 use Rattle.module.proofs.sample.refusal_of.Goals as goal

@@ -1,6 +1,5 @@
 -- `module::sample::store` meets its contract: the quantities are stored the last one first, each a run over the others, and byte 2 at
 -- the end.
-use Rattle.std.proofs.Common.{length-set, rules}
 use Rattle.model.specs.Bytes.{memory_of}
 use Rattle.module.proofs.sample.Laws.{store_all}
 use Rattle.module.proofs.sample.store.Goals as goal

@@ -3,7 +3,7 @@ use Rattle.std.proofs.Common.{ne_eqb, rules}
 use Rattle.ports.specs.Bytes
 use Rattle.model.specs.Ports.{caller}
 use Rattle.model.specs.Map.{base}
-use Rattle.model.specs.Bytes.{memory_of, record_of, state_of}
+use Rattle.model.specs.Bytes.{memory_of, record_of}
 use Rattle.model.proofs.Sound.{sound_page_lem}
 use Rattle.module.proofs.write.is_foreign.Goals as goal
 
@@ -12,7 +12,7 @@ returns-then-port-eq1 c = rw c.if-port-eq1.true
 
 pub are_mine-requires : goal.are_mine-requires
 are_mine-requires c =
-    (rw (c.page_of-page.ensures, c.record_of.ensures.0) (sound_page_lem (memory_of c.args.state.now) (record_of c.args.state.now (base (caller c.args.port))) c.requires.1), search rules)
+    (rw (c.page_of-page.ensures, c.record_of.ensures.0) (sound_page_lem (memory_of c.args.state.now) (record_of c.args.state.now (base (caller c.args.port))) c.requires.port_value), search rules)
 
 pub returns : goal.returns
 unfolding Bytes.state_of

@@ -3,8 +3,7 @@ use Rattle.std.proofs.Common.{sym, ◌∙◌, ne_eqb, length}
 use Rattle.ports.specs.Bytes
 use Rattle.ports.specs.Modules
 use Rattle.model.specs.Refusals.{write_rows}
-use Rattle.model.specs.Bytes.{state_of, rows_of, refusal_of}
-use Rattle.model.proofs.Names.{rows}
+use Rattle.model.specs.Bytes.{state_of}
 use Rattle.model.specs.Module.{document01}
 use Rattle.ports.proofs.Taken.{port_first, port_taken}
 use Rattle.module.proofs.write.refusal_of.Goals as goal
@@ -18,8 +17,8 @@ returns-then-first-ne0 c =
 
 pub run_refusal-requires : goal.run_refusal-requires
 run_refusal-requires c =
-    let x = c.args in
-    port_taken document01 x.state.now x.port (sym c.port_refusal-first.ensures ∙ c.if-first-ne0.false)
+    let t = port_taken document01 c.args.state.now c.args.port (sym c.port_refusal-first.ensures ∙ c.if-first-ne0.false) in
+    record { state_len = t.0; port_value = t.1 }
 
 pub returns : goal.returns
 unfolding Bytes.refusal_of Bytes.rows_of Modules.rows

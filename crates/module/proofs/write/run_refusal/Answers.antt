@@ -19,7 +19,7 @@ overflow_cast-address c =
 pub is_foreign-requires : goal.is_foreign-requires
 is_foreign-requires c =
     let h = write_run 256 c.args.address c.args.n (sym c.write_refusal-first.ensures ∙ c.if-first-ne0.false) in
-    ((c.requires.0, rw c.host.ensures h.2), c.requires.1)
+    record { state_len = (c.requires.state_len, rw c.host.ensures h.2); port_value = c.requires.port_value }
 
 pub returns-then-is_foreign : goal.returns-then-is_foreign
 returns-then-is_foreign c =

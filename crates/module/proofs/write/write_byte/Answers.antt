@@ -10,32 +10,32 @@ use Rattle.module.proofs.write.write_byte.Goals as goal
 pub in_record-p-requires : goal.in_record-p-requires
 in_record-p-requires c =
     let x = c.args in
-    let l = rw c.slot-1.given.1 at (slot_within c.translate-slot.result x.page x.a.0 (omega arith) (omega arith) c.translate-slot.ensures) in
+    let l = rw c.in-Mine.is at (slot_within c.translate-slot.result x.page x.a.0 (omega arith) (omega arith) c.translate-slot.ensures) in
     (l, search rules)
 
 pub enter-requires : goal.enter-requires
 enter-requires c =
-    let l = (in-record-requires c tt).0 in (search rules, omega arith)
+    let l = rw c.in-Mine.is at (slot_within c.translate-slot.result c.args.page c.args.a.0 (omega arith) (omega arith) c.translate-slot.ensures) in (search rules, omega arith)
 
 pub enter-requires-in-Common : goal.enter-requires-in-Common
 enter-requires-in-Common c =
     let x = c.args in
-    let l = rw c.slot-in-Common-1.given.1 at (slot_within c.translate-slot.result x.page x.a.0 (omega arith) (omega arith) c.translate-slot.ensures) in
+    let l = rw c.in-Common.is at (slot_within c.translate-slot.result x.page x.a.0 (omega arith) (omega arith) c.translate-slot.ensures) in
     (search rules, omega arith)
 
 pub returns-in-Mine : goal.returns-in-Mine
 returns-in-Mine c =
-    let l = (in-record-requires c tt).0 in
-    rw (c.enter.ensures, c.own_class.ensures, ← c.translate-slot.ensures, c.slot-1.given.1)
-    (stored c.args.state.now (caller c.args.port) c.args.v c.requires.0 (mine c.slot-1.given.0.0) c.in_record-p.result.0 l (cc) (omega arith))
+    let l = rw c.in-Mine.is at (slot_within c.translate-slot.result c.args.page c.args.a.0 (omega arith) (omega arith) c.translate-slot.ensures) in
+    rw (c.enter.ensures, c.own_class.ensures, ← c.translate-slot.ensures, c.in-Mine.is)
+    (stored c.args.state.now (caller c.args.port) c.args.v c.requires.0 (mine c.in-Mine.k) c.in_record-p.result.0 l (cc) (omega arith))
 
 pub returns-in-Common : goal.returns-in-Common
 returns-in-Common c =
-    let p = c.slot-in-Common-1.given.0.0 in
-    let l = rw c.slot-in-Common-1.given.1 at (slot_within c.translate-slot.result c.args.page c.args.a.0 (omega arith) (omega (arith, c.well-formed)) c.translate-slot.ensures) in
-    rw (c.enter-in-Common.ensures, c.common_class.ensures, ← c.translate-slot.ensures, c.slot-in-Common-1.given.1)
+    let p = c.in-Common.p in
+    let l = rw c.in-Common.is at (slot_within c.translate-slot.result c.args.page c.args.a.0 (omega arith) (omega (arith, c.well_formed)) c.translate-slot.ensures) in
+    rw (c.enter-in-Common.ensures, c.common_class.ensures, ← c.translate-slot.ensures, c.in-Common.is)
     (stored c.args.state.now (caller c.args.port) c.args.v c.requires.0 (common p.0) p.0 l refl (omega arith))
 
 pub returns-in-Flag : goal.returns-in-Flag
 returns-in-Flag c =
-    rw (← c.translate-slot.ensures) (slot_kept c.args.state.now (caller c.args.port) c.args.v c.requires.0 c.translate-slot.result c.in-Flag.keys3)
+    rw (← c.translate-slot.ensures) (slot_kept c.args.state.now (caller c.args.port) c.args.v c.requires.0 c.translate-slot.result c.in-Flag.is)
