@@ -56,7 +56,7 @@ pub fn sample_place(log: &[u8], used: u64, position: u64) -> Found
 
 // The sample at a position, a part of the log; empty where it is refused.
 pub fn sample_view(log: &[u8], used: u64, position: u64) -> &[u8]
-    ensures { Shown log used position result }
+    ensures { Shown log.entry used position result }
 {
     let f = sample_place(log, used, position);
     if f.refusal == 0 {

@@ -1,6 +1,8 @@
 // When did that line die? The first sample of a log that has a status bit.
 // Proved: for every memory, sound or not, used number and bit, the answer is that of document 02's Ask 9 (question/specs).
 // To be seen in the code, and not proved: of a block that is passed over three bytes are looked at.
+#![tactic(auto)]
+
 ghost use Rattle.std.specs.Prelude.{◌≡◌, false, ◌*◌, ◌≤◌, ◌<◌, ltb, length};
 ghost use Rattle.std.proofs.Math.Option.{none, some};
 ghost use Rattle.laws.specs.Tests.{if◌then◌else◌};

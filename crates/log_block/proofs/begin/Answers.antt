@@ -5,8 +5,8 @@ use Rattle.log_block.proofs.begin.Goals as goal
 
 pub seal-requires : goal.seal-requires
 seal-requires c =
-    (search rules, rw c.put_number.ensures (begin_few c.args.block.now c.requires c.args.n c.fill.new.0 c.fill.ensures))
+    (search rules, rw c.put_number.ensures (begin_few c.args.block.now c.requires c.args.n c.fill.new.dst c.fill.ensures))
 
 pub returns : goal.returns
 returns c =
-    c.seal.ensures ∙ rw c.put_number.ensures (begin_done c.args.block.now c.requires c.args.n c.fill.new.0 c.fill.ensures)
+    c.seal.ensures ∙ rw c.put_number.ensures (begin_done c.args.block.now c.requires c.args.n c.fill.new.dst c.fill.ensures)

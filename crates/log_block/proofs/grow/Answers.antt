@@ -10,15 +10,7 @@ pub seal-requires : goal.seal-requires
 seal-requires c =
     let k = c.copy in
     let n : ℕ = at c.args.block.now 4 + 1 in
-    (length-set k.new.0 4 n ∙ k.auto.0 ∙ c.requires.0, rw (at_set k.new.0 4 n 4 (omega (arith, k.auto.0, c.requires.0))) (omega (arith, c.requires.2)))
-
--- TODO goal same-length
--- same_length : tie.Need-same-length
--- same_length c =
---     let s = c.before.before in
---     let k = s.before.before.before.before in
---     let n : ℕ = at k.before.before.before.before.before.args.block.now 4 + 1 in
---     s.seal.auto.0 ∙ length-set k.copy.new.0 4 n ∙ k.copy.auto.0
+    (length-set k.new.dst 4 n ∙ k.auto.dst ∙ c.requires.0, rw (at_set k.new.dst 4 n 4 (omega (arith, k.auto.dst, c.requires.0))) (omega (arith, c.requires.2)))
 
 pub returns : goal.returns
 returns c =

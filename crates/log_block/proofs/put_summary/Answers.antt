@@ -8,15 +8,13 @@ pub bounds-block-503 : goal.bounds-block-503
 bounds-block-503 c =
     let f = c.fill in
     let s = c.status_of-s.result in
-    let long = c.before.before.before.before.before.before.before.requires.0 {-TODO past start-} in
-    omega (arith, length_two f.new.0 501 s.first 502 s.second, f.auto.0, long)
+    omega (arith, length_two f.new.dst 501 s.first 502 s.second, f.auto.dst, c.requires.0)
 
 pub bounds-block-504 : goal.bounds-block-504
 bounds-block-504 c =
     let f = c.fill in
     let s = c.status_of-s.result in
-    let long = c.before.before.before.before.before.before.before.requires.0 {-TODO past start-} in
-    omega (arith, length-set (set (set f.new.0 501 s.first) 502 s.second) 503 s.third, length_two f.new.0 501 s.first 502 s.second, f.auto.0, long)
+    omega (arith, length-set (set (set f.new.dst 501 s.first) 502 s.second) 503 s.third, length_two f.new.dst 501 s.first 502 s.second, f.auto.dst, c.requires.0)
 
 pub returns : goal.returns
 returns c =

@@ -4,4 +4,4 @@ use Rattle.log_block.proofs.seal.Goals as goal
 
 pub returns : goal.returns
 returns c =
-    rw c.put-summary.ensures {-TODO step put-summary at After-put_summary-arg-} (seal_done c.args.block.now c.requires.0 _ (rw c.put-summary.ensures {-TODO step put-summary at After-put_summary-arg-} at c.sum16-check.ensures))
+    rw c.put_summary.ensures (seal_done c.args.block.now c.requires.0 _ (rw c.put_summary.ensures at c.sum16-check.ensures))
