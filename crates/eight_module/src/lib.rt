@@ -1,6 +1,8 @@
 // The eight-channel module: the four calls that are lent its state, 98 bytes, a file each, and here what they share. Nothing need be
 // checked first: each call refuses what it cannot take, and a refusal changes no byte.
 // Proved: what each call answers and leaves is, for every input, that of the definitions (crates/eight), of which its rules are proved.
+#![tactic(auto)]
+
 ghost use Rattle.std.specs.Prelude.{◌≡◌, ◌∷◌, ◌≤◌, ◌<◌, ◌+◌, length};
 ghost use Rattle.laws.specs.Tests.{first_of};
 ghost use Rattle.laws.specs.Lists.{at};

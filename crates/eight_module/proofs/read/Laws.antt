@@ -1,8 +1,8 @@
 -- What a read shows, layer by layer, and what it clears: two runs of one record.
 -- Assumes nothing.
-use mathlib.Core.Path.{◌≡◌, refl, ◌∙◌}
+use mathlib.Core.Path.{◌≡◌}
 use mathlib.Core.List.{List}
-use Prim.Native.Nat.{ℕ, ◌+◌, ◌-◌, ◌≤◌, ◌<◌}
+use Prim.Native.Nat.{ℕ, ◌+◌, ◌-◌, ◌≤◌}
 use native.Mathlib.Omega.{arith}
 use lib.ListN.{length}
 use borrow.Author.Tests.{lt-ltb, le-ltb}
@@ -11,13 +11,13 @@ use Rattle.laws.specs.Lists.{at, patch}
 use Rattle.laws.proofs.Tests.{covers_in, covers_below}
 use Rattle.laws.proofs.Fronts.{front_over}
 use Rattle.ports.specs.Ports.{caller, read}
-use Rattle.ports.specs.Modules.{base, state_size}
-use Rattle.ports.specs.Bytes.{memory_of, record_of, refusal_of}
+use Rattle.ports.specs.Modules.{base}
+use Rattle.ports.specs.Bytes.{record_of, refusal_of}
 use Rattle.ports.specs.Outcomes.{ReadDone}
 use Rattle.ports.proofs.Left as left
 use Rattle.moves.specs.Copied.{copied}
 use Rattle.both.proofs.Laws.{own_byte}
-use Rattle.eight.specs.Tables.{flags, masks, mask_of, pending_of, record_size}
+use Rattle.eight.specs.Tables.{flags, masks, mask_of, record_size}
 use Rattle.eight.specs.Module.{seen, cleared, eight}
 use Rattle.eight.proofs.Lawful.{lawful}
 use Rattle.eight_module.proofs.Laws.{two_runs, second_run}

@@ -1,7 +1,7 @@
 -- What a sample leaves, place by place: below 14 its conditions, above that both records with its conditions raised and its onsets marked;
 -- so the bytes are those of the definitions.
 -- Assumes nothing.
-use mathlib.Core.Path.{◌≡◌, refl, sym, ap, ◌∙◌}
+use mathlib.Core.Path.{◌≡◌, sym, ap, ◌∙◌}
 use mathlib.Core.List.{List}
 use Prim.Native.Nat.{ℕ, ◌+◌, ◌-◌, ◌≤◌, ◌<◌}
 use native.Mathlib.Omega.{arith}

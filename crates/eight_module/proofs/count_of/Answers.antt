@@ -1,0 +1,12 @@
+-- `eight_module::count_of` meets its contract.
+use Rattle.std.proofs.Common.{◌∙◌, lit≤}
+use Rattle.ports.specs.Interrupt.{count_of}
+use Rattle.eight.specs.Module.{eight}
+use Rattle.both.proofs.Laws.{count_record}
+use Rattle.eight_module.proofs.count_of.Goals as goal
+
+pub returns : goal.returns
+unfolding count_of
+returns c =
+    let x = c.args in
+    c.count_beside.ensures.0 ∙ count_record eight x.state.now x.base 14 28 14 (lit≤ tt) (lit≤ tt)

@@ -1,0 +1,8 @@
+-- `eight_module::read::look` meets its contract: three layers, one over the other: zeros, the masks, the flags.
+use Rattle.eight_module.proofs.read.Laws.{look_shown}
+use Rattle.eight_module.proofs.read.look.Goals as goal
+
+pub returns : goal.returns
+returns c =
+    let x = c.args in
+    look_shown x.state.now x.base x.out.now x.a x.n c.requires.3 c.fill.ensures c.copy_part.ensures c.copy_part-2.ensures

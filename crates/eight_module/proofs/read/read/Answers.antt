@@ -1,0 +1,7 @@
+-- `eight_module::read::read` meets its contract.
+use Rattle.ports.proofs.Outcomes.{read_refused}
+use Rattle.eight.specs.Module.{eight}
+use Rattle.eight_module.proofs.read.read.Goals as goal
+
+pub returns-then-refusal-ne0 : goal.returns-then-refusal-ne0
+returns-then-refusal-ne0 c = read_refused eight _ _ _ _ _ _ c.refusal_of-refusal.ensures c.if-refusal-ne0.true
