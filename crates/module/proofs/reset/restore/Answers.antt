@@ -2,10 +2,6 @@
 use Rattle.module.proofs.reset.Laws.{restore_all}
 use Rattle.module.proofs.reset.restore.Goals as goal
 
--- TODO goal same-length
--- same_length : tie.Need-same-length
--- same_length c = simp length-set (search rules)
-
 pub returns : goal.returns
 returns c =
     rw (c.index-status.ensures, c.place_of.ensures.0, c.empty.ensures)

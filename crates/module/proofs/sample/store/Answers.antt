@@ -4,10 +4,6 @@ use Rattle.model.specs.Bytes.{memory_of}
 use Rattle.module.proofs.sample.Laws.{store_all}
 use Rattle.module.proofs.sample.store.Goals as goal
 
--- TODO goal same-length
--- same_length : tie.Need-same-length
--- same_length c = simp length-set (search rules)
-
 pub returns : goal.returns
 returns c =
     let s = c.args.state.now in
