@@ -1,6 +1,7 @@
 -- What the forms of `address` stand for: a register's places, and document 01's seats and classes.
 -- Assumes nothing.
-use Rattle.laws.specs.Words.{ℕ, suc, ◌-◌, ltb, if◌then◌else◌}
+use Rattle.std.specs.Prelude.{◌-◌, if◌then◌else◌}
+use Rattle.laws.specs.Words.{ℕ, suc, ltb}
 use Rattle.model.specs.Map.{Seat, flag, mine, common, status, blank, page_size, paged}
 use Rattle.model.specs.Writing as writing
 use Rattle.address.specs.declared.Register.{Register}

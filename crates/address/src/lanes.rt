@@ -1,7 +1,7 @@
 // Runs of addresses taken to runs of places: what a read copies, and what it clears.
 // A lane is some addresses in a row whose bytes stand in a row; a run of addresses has a part of each lane, or none.
-ghost use Rattle.std.specs.Prelude.{◌≡◌, ◌<◌, ◌≤◌, ◌+◌, ◌-◌, max, min, length};
-ghost use Rattle.laws.specs.Tests.{if◌then◌else◌, covers};
+ghost use Rattle.std.specs.Prelude.{◌≡◌, ◌<◌, ◌≤◌, ◌+◌, ◌-◌, max, min, length, if◌then◌else◌};
+ghost use Rattle.laws.specs.Tests.{covers};
 ghost use Rattle.laws.specs.Lists.{at, patch};
 ghost use Rattle.model.specs.Map.{page_size, paged, record_size, state_size, flags, low_masks, high_masks, low_mask_of, high_mask_of, page_at};
 ghost use Rattle.moves.specs.Copied.{copied};

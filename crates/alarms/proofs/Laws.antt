@@ -1,5 +1,6 @@
 -- A comparison of two signed locals, and the twelve flag bytes of a sample from the code's rows.
 -- Assumes nothing.
+use Rattle.std.specs.Prelude.{if◌then◌else◌}
 use mathlib.Core.Path.{◌≡◌, sym, ap, ap₂, ◌∙◌}
 use mathlib.Core.Bool.{Bool}
 use mathlib.Core.List.{List, [], ◌∷◌}
@@ -9,7 +10,7 @@ use lib.Signed.{lt_z, mag}
 use mir.Syntax.{w16}
 use mir.Val.{to_z, of_z}
 use mir.Facts.{to_z-of_z}
-use Rattle.laws.specs.Tests.{if◌then◌else◌, one}
+use Rattle.laws.specs.Tests.{one}
 use Rattle.laws.proofs.Tests.{one_le}
 use Rattle.laws.specs.Lists.{at, table}
 use Rattle.model.specs.Map.{flags}

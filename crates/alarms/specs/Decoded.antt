@@ -1,6 +1,7 @@
 -- The decoded form that the code works on: sixteen bits, signed or not, and three rows of four numbers.
 -- Assumes nothing.
-use Rattle.laws.specs.Words.{ℕ, ◌+◌, Bool, List, [], ◌∷◌, get_or, ℤ, pos, if◌then◌else◌, at}
+use Rattle.std.specs.Prelude.{◌+◌, ◌∷◌, if◌then◌else◌}
+use Rattle.laws.specs.Words.{ℕ, Bool, List, [], get_or, ℤ, pos, at}
 use Rattle.model.specs.Samples.{word, signed}
 
 -- what sixteen bits stand for, signed or not

@@ -2,9 +2,9 @@
 // Proved: the twelve bytes are those of the definition `conds` (document 01, "Samples and conditions").
 #![tactic(auto)]
 
-ghost use Rattle.std.specs.Prelude.{◌≡◌, ◌+◌, ◌*◌, ◌<◌, ◌≤◌, pos, length};
+ghost use Rattle.std.specs.Prelude.{◌≡◌, ◌+◌, ◌*◌, ◌<◌, ◌≤◌, pos, length, if◌then◌else◌};
 ghost use Rattle.std.specs.Int.Signed.{lt_z};
-ghost use Rattle.laws.specs.Tests.{if◌then◌else◌, one};
+ghost use Rattle.laws.specs.Tests.{one};
 ghost use Rattle.laws.specs.Lists.{at, table};
 ghost use Rattle.model.specs.Map.{state_size, flags, paged};
 ghost use Rattle.model.specs.Samples.{word, signed, four_of, offered, tx_power, sample_size, conds};

@@ -1,6 +1,7 @@
 -- What a sound block says of its places; and a block that is written is sealed (Sealed.antt), so it is sound if its count and its unused
 -- room are right, and its number and its samples are read off the places before byte 501.
 -- Assumes nothing.
+use Rattle.std.specs.Prelude.{if◌then◌else◌}
 use mathlib.Core.Path.{◌≡◌, refl, sym, ap, ◌∙◌}
 use mathlib.Core.Logic.{◌≢◌}
 use mathlib.Core.Bool.{true, false, ◌&&◌}
@@ -11,7 +12,7 @@ use lib.Dec.{leb, ltb, eqb}
 use lib.ListN.{length, length-append, get_or, get_or-append}
 use lib.Seq.{get_or-append_seam}
 use borrow.Author.Tests.{leb-true, ltb-true, ltb-false, ne_eqb, eqb-true}
-use Rattle.laws.specs.Tests.{if◌then◌else◌, covers}
+use Rattle.laws.specs.Tests.{covers}
 use Rattle.laws.specs.Lists.{at, part}
 use Rattle.laws.proofs.Tests.{case, and_left, and_right, covers_in, covers_below, covers_above}
 use Rattle.laws.proofs.Lists.{table_length}

@@ -1,5 +1,6 @@
 -- A block that is written of bytes is one of bytes.
 -- Assumes nothing.
+use Rattle.std.specs.Prelude.{if◌then◌else◌}
 use mathlib.Core.List.{List}
 use Prim.Native.Nat.{ℕ, zero, suc, ◌+◌, ◌-◌, ◌<◌}
 use native.Mathlib.Omega.{arith}
@@ -7,7 +8,7 @@ use lib.Bits.{or_lt}
 use lib.Dec.{ltb, eqb}
 use lib.ListN.{get_or-eq_default}
 use borrow.Author.Tests.{ltb-true, ltb-false}
-use Rattle.laws.specs.Tests.{if◌then◌else◌, covers}
+use Rattle.laws.specs.Tests.{covers}
 use Rattle.laws.specs.Lists.{at, table}
 use Rattle.laws.proofs.Tests.{case, if_elim}
 use Rattle.laws.proofs.Lists.{table_length, table_at}

@@ -1,6 +1,7 @@
 -- Document 02, Ask 1 and Ask 9: a block of a log, 512 bytes.
 -- Assumes nothing.
-use Rattle.laws.specs.Words.{ℕ, zero, suc, ◌+◌, ◌-◌, ◌*◌, ◌/◌, ◌%◌, ◌<◌, Bool, true, ◌&&◌, ◌||◌, List, [], ◌∷◌, ◌++◌, bit_or, eqb, ltb, leb, if◌then◌else◌, covers, at, table, part, sum}
+use Rattle.std.specs.Prelude.{◌+◌, ◌-◌, ◌*◌, ◌/◌, ◌%◌, ◌<◌, ◌&&◌, ◌||◌, ◌∷◌, ◌++◌, if◌then◌else◌}
+use Rattle.laws.specs.Words.{ℕ, zero, suc, Bool, true, List, [], bit_or, eqb, ltb, leb, covers, at, table, part, sum}
 
 -- ---- its fields
 

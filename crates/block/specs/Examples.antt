@@ -1,6 +1,7 @@
 -- Document 02, Ask 1 and Ask 9: blocks that the computed examples speak of.
 -- Assumes nothing.
-use Rattle.laws.specs.Words.{ℕ, ◌-◌, ◌*◌, ◌||◌, List, [], ◌∷◌, ◌++◌, length, replicate, eqb, if◌then◌else◌}
+use Rattle.std.specs.Prelude.{◌-◌, ◌*◌, ◌||◌, ◌∷◌, ◌++◌, if◌then◌else◌}
+use Rattle.laws.specs.Words.{ℕ, List, [], length, replicate, eqb}
 use Rattle.block.specs.Block.{sample_size, most_samples}
 
 -- "Block 1 with no samples has 1 in byte 3 .. and zeros elsewhere"; "(Ask 1's empty block: 504 is 1, 511 is 2)"

@@ -1,6 +1,7 @@
 -- Refusal 5 of a write as the code tests it. The count over pairs side by side: one pair more; and in the record of any module. What a read
 -- shows of a record.
 -- Assumes nothing.
+use Rattle.std.specs.Prelude.{if◌then◌else◌}
 use mathlib.Core.Path.{◌≡◌, refl, ap}
 use mathlib.Core.Bool.{false, ◌&&◌, ◌||◌}
 use mathlib.Core.List.{List, [], ◌∷◌, ◌++◌, map, map-append}
@@ -11,7 +12,7 @@ use lib.Bits.{bit_and, bit_xor}
 use lib.Count.{ones}
 use lib.Dec.{eqb, ltb}
 use borrow.Author.Tests.{lt-ltb, ltb-false}
-use Rattle.laws.specs.Tests.{if◌then◌else◌, Run, within}
+use Rattle.laws.specs.Tests.{Run, within}
 use Rattle.laws.specs.Lists.{at, sum}
 use Rattle.laws.proofs.Tests.{case, or_right, covers_true, sub_ltb}
 use Rattle.laws.proofs.Sums.{sum_last}

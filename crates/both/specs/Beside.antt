@@ -1,6 +1,7 @@
 -- Pairs as the code goes over them: from a flag byte and a mask byte on, side by side.
 -- Assumes nothing.
-use Rattle.laws.specs.Words.{ℕ, zero, suc, List, [], ◌∷◌}
+use Rattle.std.specs.Prelude.{◌∷◌}
+use Rattle.laws.specs.Words.{ℕ, zero, suc, List, []}
 use Rattle.ports.specs.Interrupt.{Pair}
 
 -- n of them

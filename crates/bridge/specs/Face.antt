@@ -1,6 +1,7 @@
 -- What the functions that C calls promise: the contracts of ports/specs, model/specs and log_model/specs, the numbers packed into one.
 -- Assumes nothing.
-use Rattle.laws.specs.Words.{ℕ, suc, ◌/◌, ◌%◌, ◌<◌, ◌≡◌, List, Option, none, some}
+use Rattle.std.specs.Prelude.{◌/◌, ◌%◌, ◌<◌, ◌≡◌}
+use Rattle.laws.specs.Words.{ℕ, suc, List, Option, none, some}
 use Rattle.ports.specs.Ports.{CallOf}
 use Rattle.ports.specs.Modules.{Module}
 use Rattle.ports.specs.Outcomes.{Reported, ReadDone, WriteDone}

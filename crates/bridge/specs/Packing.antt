@@ -1,6 +1,7 @@
 -- The numbers that C is handed: an answer's bytes in one number, and the parts of what a monitor or a limits call tells.
 -- Assumes nothing.
-use Rattle.laws.specs.Words.{ℕ, zero, suc, ◌/◌, ◌%◌, List, get_or, Float, of_int, binary64, pos}
+use Rattle.std.specs.Prelude.{◌/◌, ◌%◌}
+use Rattle.laws.specs.Words.{ℕ, zero, suc, List, get_or, Float, of_int, binary64, pos}
 use Rattle.model.specs.Samples.{Kind, degrees, volts, milliwatts, milliamperes}
 use Rattle.model.specs.Readout.{Measured, measured, nothing}
 use Rattle.model.specs.Outcomes.{Told, refused, given}

@@ -1,6 +1,7 @@
 -- Writes: an accepted write replaces one record by one in which the addressed mask bytes are what was written, cut to their mask bits. The
 -- bits that are cut off are 0 before and after, since the record is sound.
 -- Assumes nothing.
+use Rattle.std.specs.Prelude.{if◌then◌else◌}
 use mathlib.Core.Path.{◌≡◌, refl, sym, ap, ◌∙◌}
 use mathlib.Core.Bool.{true, false}
 use mathlib.Core.List.{List}
@@ -10,7 +11,7 @@ use lib.Bits.{bit_and}
 use lib.Dec.{eqb}
 use lib.ListN.{length}
 use borrow.Author.Tests.{eqb-true, eq-eqb, not-true, not-false}
-use Rattle.laws.specs.Tests.{if◌then◌else◌, covers}
+use Rattle.laws.specs.Tests.{covers}
 use Rattle.laws.specs.Bits.{bit, has}
 use Rattle.laws.specs.Lists.{at}
 use Rattle.laws.proofs.Tests.{case, and_left, and_right, covers_in, covers_true}

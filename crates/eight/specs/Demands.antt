@@ -1,7 +1,8 @@
 -- The words of the eight-channel module's own rules: what the calls leave after a reset, what an onset is, with no state in it; which bits a write changes; what holds the
 -- interrupt up.
 -- Assumes nothing.
-use Rattle.laws.specs.Words.{ℕ, ◌+◌, ◌-◌, ◌<◌, ◌≡◌, Bool, true, not, ◌&&◌, List, [], length, covers, none_of, if◌then◌else◌, bit, has, at}
+use Rattle.std.specs.Prelude.{◌+◌, ◌-◌, ◌<◌, ◌≡◌, ◌&&◌, if◌then◌else◌}
+use Rattle.laws.specs.Words.{ℕ, Bool, true, not, List, [], length, covers, none_of, bit, has, at}
 use Rattle.ports.specs.Ports.{Port, caller, reset, sample, read, write}
 use Rattle.ports.specs.Histories.{start, ◌▷◌}
 use Rattle.ports.specs.Modules.{base, state_size, sample_rows}

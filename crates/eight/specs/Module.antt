@@ -1,7 +1,8 @@
 -- Ask 6, the eight-channel module, in the shape that any module with two ports has (ports, specs/Modules.antt). The memory that the ports
 -- share is the conditions of the last accepted sample, 14 bytes, which no port reads or writes.
 -- Assumes nothing.
-use Rattle.laws.specs.Words.{ℕ, suc, ◌+◌, ◌-◌, Bool, true, false, ◌&&◌, List, [], ◌∷◌, length, leb, ltb, eqb, bit_or, bit_and, bit_xor, if◌then◌else◌, covers, within, at}
+use Rattle.std.specs.Prelude.{◌+◌, ◌-◌, ◌&&◌, ◌∷◌, if◌then◌else◌}
+use Rattle.laws.specs.Words.{ℕ, suc, Bool, true, false, List, [], length, leb, ltb, eqb, bit_or, bit_and, bit_xor, covers, within, at}
 use Rattle.ports.specs.Ports.{Places, give, CallOf}
 use Rattle.ports.specs.Histories.{History}
 use Rattle.ports.specs.Interrupt.{count_of, stands_of}

@@ -1,7 +1,8 @@
 -- Which bits are flags, and which are masks, "paired by name": source document 002 (QSFP-DD revision 2.0), Tables 18 and 27; docs/EIGHT.md
 -- has them bit by bit. And where a record keeps them.
 -- Assumes nothing.
-use Rattle.laws.specs.Words.{ℕ, ◌+◌, List, [], ◌∷◌, ◌++◌, map, Run, ◌to◌}
+use Rattle.std.specs.Prelude.{◌+◌, ◌∷◌, ◌++◌}
+use Rattle.laws.specs.Words.{ℕ, List, [], map, Run, ◌to◌}
 use Rattle.ports.specs.Interrupt.{Pair}
 
 -- lower bytes 3 to 16, and the mask bytes that serve them: 102 serves 3, .., 115 serves 16, bit by bit

@@ -1,6 +1,7 @@
 -- What a sample makes of a byte of a record, with its conditions and its onsets as lists of sixteen: two zeros, and then fourteen bytes.
 -- Assumes nothing.
-use Rattle.laws.specs.Words.{ℕ, ◌+◌, ◌-◌, List, ltb, bit_or, if◌then◌else◌, covers, at}
+use Rattle.std.specs.Prelude.{◌+◌, ◌-◌, if◌then◌else◌}
+use Rattle.laws.specs.Words.{ℕ, List, ltb, bit_or, covers, at}
 use Rattle.eight.specs.Tables.{flags, pending_of}
 
 -- two zeros before f 0

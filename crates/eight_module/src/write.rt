@@ -1,8 +1,8 @@
 // The write, on lent memory.
 // Proved: for every input, the refusal, the count and the bytes left are those of the definitions.
-ghost use Rattle.std.specs.Prelude.{◌≡◌, ◌≤◌, ◌<◌, ◌+◌, ◌-◌, length, set};
+ghost use Rattle.std.specs.Prelude.{◌≡◌, ◌≤◌, ◌<◌, ◌+◌, ◌-◌, length, set, if◌then◌else◌};
 ghost use Rattle.std.specs.Int.Bits.{bit_and};
-ghost use Rattle.laws.specs.Tests.{if◌then◌else◌, within, first_of};
+ghost use Rattle.laws.specs.Tests.{within, first_of};
 ghost use Rattle.laws.specs.Lists.{at, patch};
 ghost use Rattle.ports.specs.Ports.{write};
 ghost use Rattle.ports.specs.Modules.{state_size, write_rows};

@@ -1,6 +1,7 @@
 -- Single bits: bit j is the lowest digit after a shift by j, so that and, or and exclusive or are taken digit by digit. A splice at k is
 -- known by its remainder and its quotient by 2 ^ k, which have the bits below k and the others.
 -- Assumes nothing.
+use Rattle.std.specs.Prelude.{if◌then◌else◌}
 use mathlib.Core.Path.{◌≡◌, refl, sym, ap, ◌∙◌}
 use mathlib.Core.Bool.{true, false, not, ◌&&◌, ◌||◌}
 use Prim.Native.Nat.{ℕ, zero, suc, ◌+◌, ◌-◌, ◌*◌, ◌/◌, ◌%◌, ◌^◌, ◌≤◌, ◌<◌, min, max}
@@ -11,7 +12,6 @@ use lib.Bits.{bit_and, bit_or, bit_xor, differ, and_step, and_shr, and_le_l, or_
 use lib.Dec.{ltb, eqb}
 use lib.Pow.{split, field, mod-mod-pow, shr-shr, pow_pos}
 use borrow.Author.Tests.{eqb-true, eqb-false, eq-eqb, ne_eqb, ltb-true, ltb-false}
-use Rattle.laws.specs.Tests.{if◌then◌else◌}
 use Rattle.laws.specs.Bits.{bit, has, splice}
 use Rattle.laws.proofs.Tests.{case}
 

@@ -1,6 +1,7 @@
 -- The front of a list, its first n places, replaced once and again: what is put there last stands there, though it may be worked out from
 -- what stood there before. So several such steps are one, shown inside the front and past it.
 -- Assumes nothing.
+use Rattle.std.specs.Prelude.{if◌then◌else◌}
 use mathlib.Core.Path.{◌≡◌, refl, sym, ap, ◌∙◌}
 use mathlib.Core.Bool.{true}
 use mathlib.Core.List.{List}
@@ -11,7 +12,7 @@ use lib.Dec.{ltb, eqb}
 use lib.ListN.{length, set, length-set, get_or-eq_default}
 use lib.Seq.{get_or-set_other}
 use borrow.Author.Tests.{lt-ltb, le-ltb, ltb-true, ltb-false}
-use Rattle.laws.specs.Tests.{if◌then◌else◌, covers}
+use Rattle.laws.specs.Tests.{covers}
 use Rattle.laws.specs.Lists.{at, patch}
 use Rattle.laws.proofs.Tests.{case, covers_true}
 use Rattle.laws.proofs.Lists.{table_agree, patch_length, patch_same, patch_in, patch_above, patch_else, patch_overlap, patch_apart, is_patch, at_set}

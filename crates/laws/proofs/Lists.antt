@@ -1,6 +1,7 @@
 -- Lists by what stands at each place: that of a table goes by recursion, and a list with a table's length and places is the table. A run
 -- of places replaced is a table too, so what is said of it is shown inside the run and outside it.
 -- Assumes nothing.
+use Rattle.std.specs.Prelude.{if◌then◌else◌}
 use mathlib.Core.Path.{◌≡◌, refl, sym, ap, ◌∙◌}
 use mathlib.Core.Logic.{◌≢◌}
 use mathlib.Core.List.{List}
@@ -11,7 +12,7 @@ use lib.Dec.{eqb}
 use lib.ListN.{length, set, length-set, length-take, length-drop}
 use lib.Seq.{ext_get_or, get_or-set_same, get_or-set_other, get_or-take, get_or-drop}
 use borrow.Author.Tests.{eqb-true, eqb-false}
-use Rattle.laws.specs.Tests.{if◌then◌else◌, covers}
+use Rattle.laws.specs.Tests.{covers}
 use Rattle.laws.specs.Lists.{at, part, table, patch}
 use Rattle.laws.proofs.Tests.{case, not_both, covers_in, covers_below, covers_above, covers_true, covers_none}
 

@@ -1,6 +1,7 @@
 -- Lists that are picked from others (numbers in a row, the elements that pass a test, all pairs of two lists): along the list, an element
 -- is a member exactly if it should be, and lengths and sums add up. That none stands twice is told by a number that rises.
 -- Assumes nothing.
+use Rattle.std.specs.Prelude.{if◌then◌else◌}
 use mathlib.Core.Path.{◌≡◌, refl, sym, ap, ◌∙◌}
 use mathlib.Core.Logic.{◌≢◌, ⊎_elim, ∥∥₁_elim}
 use mathlib.Core.HLevel.{⊥_prop}
@@ -13,7 +14,7 @@ use native.Mathlib.Omega.{arith}
 use lib.Dec.{leb, eqb}
 use lib.ListN.{length}
 use borrow.Author.Tests.{eqb-true, eqb-false, leb-true}
-use Rattle.laws.specs.Tests.{if◌then◌else◌, one}
+use Rattle.laws.specs.Tests.{one}
 use Rattle.laws.specs.Lists.{sum}
 use Rattle.laws.proofs.Tests.{case, if_elim, and_left, and_right}
 use Rattle.laws.proofs.Sums.{sum_append}

@@ -1,6 +1,7 @@
 -- The first row that applies, by going along the rows: a row's number is given exactly when its test passes and no earlier one's does,
 -- since no later row has that number. Where the numbers rise it is the lowest of those that apply, since all later ones are above it.
 -- Assumes nothing.
+use Rattle.std.specs.Prelude.{if◌then◌else◌}
 use mathlib.Core.Path.{◌≡◌, refl, sym, ap, ◌∙◌}
 use mathlib.Core.Logic.{◌↔◌, ◌≢◌}
 use mathlib.Core.Bool.{Bool, true, false, true≢false, false≢true, not, ◌&&◌}
@@ -12,7 +13,7 @@ use lib.Dec.{ltb, eqb}
 use borrow.Author.Tests.{not-true, eqb-true, eqb-false, eq-eqb, ne_eqb, ltb-true}
 use native.Mathlib.Nat.{le_refl}
 use native.Mathlib.Omega.{arith}
-use Rattle.laws.specs.Tests.{if◌then◌else◌, Row, first_of, none_of, InOrder}
+use Rattle.laws.specs.Tests.{Row, first_of, none_of, InOrder}
 use Rattle.laws.proofs.Tests.{same_test, and_left, and_right, and_both}
 
 -- the numbers of the rows are above k, and rise

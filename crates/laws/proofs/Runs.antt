@@ -1,6 +1,7 @@
 -- Several runs of places replaced one after the other, by one function: a place in any of them holds the function's number for it, so
 -- their order makes no difference.
 -- Assumes nothing.
+use Rattle.std.specs.Prelude.{if◌then◌else◌}
 use mathlib.Core.Path.{◌≡◌, refl, ◌∙◌}
 use mathlib.Core.Bool.{Bool, true, false, ◌&&◌, ◌||◌, beq}
 use mathlib.Core.List.{List, [], ◌∷◌}
@@ -8,7 +9,7 @@ use Prim.Native.Nat.{ℕ, ◌+◌, ◌-◌, ◌<◌}
 use native.Mathlib.Omega.{arith}
 use lib.Dec.{ltb}
 use lib.ListN.{length}
-use Rattle.laws.specs.Tests.{if◌then◌else◌, Run, within}
+use Rattle.laws.specs.Tests.{Run, within}
 use Rattle.laws.specs.Lists.{at, patch}
 use Rattle.laws.proofs.Tests.{case, beq_same, covers_true}
 use Rattle.laws.proofs.Finite.{always, always_at}

@@ -1,13 +1,14 @@
 -- Choices by a test, `and` and `or`, numbers against a run: what is said of Booleans goes by their cases, and a test of numbers is turned
 -- into a fact of numbers, which arithmetic settles, and back.
 -- Assumes nothing.
+use Rattle.std.specs.Prelude.{if◌then◌else◌}
 use mathlib.Core.Path.{◌≡◌, refl, sym, ◌∙◌}
 use mathlib.Core.Bool.{Bool, true, false, not, true≢false, ◌&&◌, ◌||◌, and-false, beq}
 use Prim.Native.Nat.{ℕ, suc, ◌+◌, ◌-◌, ◌≤◌, ◌<◌}
 use lib.Dec.{leb, ltb, eqb}
 use borrow.Author.Tests.{eqb-true, eqb-false, lt-leb, le-leb, leb-true, leb-false, lt-ltb, le-ltb, ltb-true, ltb-false}
 use native.Mathlib.Omega.{arith}
-use Rattle.laws.specs.Tests.{if◌then◌else◌, one, covers}
+use Rattle.laws.specs.Tests.{one, covers}
 
 -- ---- a choice by a test
 
@@ -17,17 +18,17 @@ case true f g = f refl
 case false f g = g refl
 
 -- both branches agree with z
-pub if_both {ℓ} : {A : Type ℓ} (b : Bool) {x y z : A} → x ≡ z → y ≡ z → (if b then x else y) ≡ z
+pub if_both : {A : Type 0} (b : Bool) {x y z : A} → x ≡ z → y ≡ z → (if b then x else y) ≡ z
 if_both true p q = p
 if_both false p q = q
 
 -- the branches change places
-pub if_not {ℓ} : {A : Type ℓ} (b : Bool) (x y : A) → (if not b then x else y) ≡ (if b then y else x)
+pub if_not : {A : Type 0} (b : Bool) (x y : A) → (if not b then x else y) ≡ (if b then y else x)
 if_not true x y = refl
 if_not false x y = refl
 
 -- what holds of both branches holds of the whole
-pub if_elim {ℓ κ} : {A : Type ℓ} (P : A → Type κ) (b : Bool) {x y : A} → (b ≡ true → P x) → (b ≡ false → P y) → P (if b then x else y)
+pub if_elim {κ} : {A : Type 0} (P : A → Type κ) (b : Bool) {x y : A} → (b ≡ true → P x) → (b ≡ false → P y) → P (if b then x else y)
 if_elim P true f g = f refl
 if_elim P false f g = g refl
 

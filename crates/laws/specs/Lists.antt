@@ -1,7 +1,7 @@
 -- Lists of numbers: what stands at each place, parts, a run of places replaced, sums.
 -- Assumes nothing.
-use Rattle.std.specs.Prelude.{ℕ, zero, suc, ◌+◌, ◌-◌, List, [], ◌∷◌, length, get_or, take, drop}
-use Rattle.laws.specs.Tests.{if◌then◌else◌, covers}
+use Rattle.std.specs.Prelude.{ℕ, zero, suc, ◌+◌, ◌-◌, List, [], ◌∷◌, length, get_or, take, drop, if◌then◌else◌}
+use Rattle.laws.specs.Tests.{covers}
 
 -- what stands at place i, 0 past the end
 abbrev pub at : List ℕ → ℕ → ℕ

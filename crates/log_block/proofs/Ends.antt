@@ -1,11 +1,10 @@
 -- The end of a block, bytes 501 to 511, as the functions test and write it, place by place. Byte 504 tells whether there must be a
 -- summary or zeros, and one sum over all 512 bytes tests the check, being that of the first 510 and the check's own two.
 -- Assumes nothing.
-use Rattle.std.proofs.Common.{◌≡◌, ℕ, zero, suc, ◌+◌, ◌*◌, ◌/◌, ◌%◌, ◌<◌, ◌≤◌, false, ◌&&◌, eqb, ltb, ◌≢◌, List, length, set, sym, refl, ap, ◌∙◌, add-one, arith, length-set, ltb-false, ltb-true, le-ltb, eq-eqb, ne_eqb, eqb-true}
+use Rattle.std.proofs.Common.{◌≡◌, ℕ, zero, suc, ◌+◌, ◌*◌, ◌/◌, ◌%◌, ◌<◌, ◌≤◌, false, ◌&&◌, eqb, ltb, ◌≢◌, List, length, set, sym, refl, ap, ◌∙◌, add-one, arith, length-set, ltb-false, ltb-true, le-ltb, eq-eqb, ne_eqb, eqb-true, if◌then◌else◌}
 use mathlib.Core.Bool.{and-true, and_assoc, or-false}
 use lib.Bits.{bit_or}
 use borrow.Author.Tests.{eqb-false}
-use Rattle.laws.specs.Tests.{if◌then◌else◌}
 use Rattle.laws.specs.Lists.{at, part, table, patch, sum}
 use Rattle.laws.proofs.Tests.{case, and_both, covers_in, covers_below}
 use Rattle.laws.proofs.Lists.{is_table, patch_length, patch_at, patch_in, patch_else, is_patch, patch_same, at_set}

@@ -1,9 +1,8 @@
 -- Blocks as the functions write them: sealing goes by the places before byte 501 alone (`resealed`), so it is enough that the steps
 -- before it leave there what the definition says. And a sound block's tests, in the function's order.
 -- Assumes nothing.
-use Rattle.std.proofs.Common.{◌≡◌, ℕ, zero, suc, ◌+◌, ◌-◌, ◌/◌, ◌%◌, ◌<◌, ◌≤◌, true, false, ◌&&◌, eqb, ltb, List, [], ◌∷◌, length, set, sym, refl, ap, ◌∙◌, arith, length-set, ltb-false, ltb-true, le-ltb, le-leb}
+use Rattle.std.proofs.Common.{◌≡◌, ℕ, zero, suc, ◌+◌, ◌-◌, ◌/◌, ◌%◌, ◌<◌, ◌≤◌, true, false, ◌&&◌, eqb, ltb, List, [], ◌∷◌, length, set, sym, refl, ap, ◌∙◌, arith, length-set, ltb-false, ltb-true, le-ltb, le-leb, if◌then◌else◌}
 use borrow.Author.Tests.{lt-leb}
-use Rattle.laws.specs.Tests.{if◌then◌else◌}
 use Rattle.laws.specs.Lists.{at, table, patch}
 use Rattle.laws.proofs.Tests.{case, covers_in, covers_above}
 use Rattle.laws.proofs.Lists.{patch_length, patch_at, at_set}

@@ -1,8 +1,7 @@
 // The sample at a position of a log.
 // Proved: for every memory, used number and position, the refusal, where the sample lies and its bytes are those of document 02's
 // Ask 1 (log/specs).
-ghost use Rattle.std.specs.Prelude.{◌≡◌, true, ◌*◌, ◌≤◌, ◌<◌, leb, length};
-ghost use Rattle.laws.specs.Tests.{if◌then◌else◌};
+ghost use Rattle.std.specs.Prelude.{◌≡◌, true, ◌*◌, ◌≤◌, ◌<◌, leb, length, if◌then◌else◌};
 ghost use Rattle.block.specs.Block.{block_size};
 ghost use Rattle.log_model.specs.Log.{sound, total, place_of};
 ghost use Rattle.log_model.specs.Outcomes.{Placed, Shown};

@@ -1,6 +1,7 @@
 -- The search in the steps of the functions: while nothing is found the answer is none, and stays so with one sample or one block more
 -- that lacks the bit; once something is found, no later sample and no later block changes the answer.
 -- Assumes nothing.
+use Rattle.std.specs.Prelude.{if◌then◌else◌}
 use mathlib.Core.Path.{◌≡◌, sym, ◌∙◌}
 use mathlib.Core.Bool.{true, false}
 use mathlib.Core.List.{List, [], ◌∷◌}
@@ -11,7 +12,6 @@ use native.Mathlib.Omega.{arith}
 use lib.Dec.{ltb, eqb}
 use lib.ListN.{length}
 use borrow.Author.Tests.{eqb-true, eqb-false, lt-ltb, le-ltb}
-use Rattle.laws.specs.Tests.{if◌then◌else◌}
 use Rattle.laws.specs.Bits.{has}
 use Rattle.laws.specs.Lists.{at, part}
 use Rattle.laws.proofs.Tests.{case}

@@ -3,9 +3,8 @@
 // To be seen in the code, and not proved: of a block that is passed over three bytes are looked at.
 #![tactic(auto)]
 
-ghost use Rattle.std.specs.Prelude.{◌≡◌, false, ◌*◌, ◌≤◌, ◌<◌, ltb, length};
+ghost use Rattle.std.specs.Prelude.{◌≡◌, false, ◌*◌, ◌≤◌, ◌<◌, ltb, length, if◌then◌else◌};
 ghost use Rattle.std.proofs.Math.Option.{none, some};
-ghost use Rattle.laws.specs.Tests.{if◌then◌else◌};
 ghost use Rattle.laws.specs.Bits.{has};
 ghost use Rattle.block.specs.Block.{block_size, count, most_samples, samples_to};
 ghost use Rattle.log_model.specs.Log.{block};

@@ -1,6 +1,7 @@
 -- Document 02, Ask 1: what an add leaves. Whether the block that is written is the last or a new one, it follows the one before it and
 -- has one sample more: so a sound log stays sound, the sample comes after those that were there, and no other block is changed.
 -- Assumes nothing.
+use Rattle.std.specs.Prelude.{if◌then◌else◌}
 use mathlib.Core.Path.{◌≡◌, refl, sym, ap, ◌∙◌}
 use mathlib.Core.Logic.{◌≢◌}
 use mathlib.Core.Bool.{true, false, true≢false, not, ◌&&◌}
@@ -10,7 +11,6 @@ use native.Mathlib.Omega.{arith}
 use lib.Dec.{eqb}
 use lib.ListN.{length}
 use borrow.Author.Tests.{eqb-true, leb-false, not-true, not-false}
-use Rattle.laws.specs.Tests.{if◌then◌else◌}
 use Rattle.laws.specs.Lists.{at}
 use Rattle.laws.proofs.Tests.{case, and_left, and_right}
 use Rattle.laws.proofs.Lists.{part_length}

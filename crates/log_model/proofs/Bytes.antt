@@ -1,12 +1,13 @@
 -- Memory of bytes stays memory of bytes, since each block that is put is one of bytes.
 -- Assumes nothing.
+use Rattle.std.specs.Prelude.{if◌then◌else◌}
 use mathlib.Core.Path.{◌≡◌}
 use mathlib.Core.Bool.{false, ◌&&◌}
 use mathlib.Core.List.{List}
 use Prim.Native.Nat.{ℕ, suc, ◌-◌, ◌*◌, ◌<◌}
 use native.Mathlib.Omega.{arith}
 use lib.ListN.{length}
-use Rattle.laws.specs.Tests.{if◌then◌else◌, covers}
+use Rattle.laws.specs.Tests.{covers}
 use Rattle.laws.specs.Lists.{at, patch}
 use Rattle.laws.proofs.Tests.{if_elim}
 use Rattle.block.specs.Block.{block_size, grown, Bytes}

@@ -1,6 +1,7 @@
 -- What is kept over any series of calls on a sound log, call by call: a refused one leaves all as it was, an accepted power-up adds no
 -- sample and an accepted add one at the end. So reading hands back the samples that were there and the accepted ones, in their order.
 -- Assumes nothing.
+use Rattle.std.specs.Prelude.{if◌then◌else◌}
 use mathlib.Core.Path.{◌≡◌, refl, ap, ◌∙◌}
 use mathlib.Core.List.{List, [], ◌∷◌, ◌++◌}
 use Prim.Native.Nat.{ℕ, ◌+◌, suc, ◌<◌}
@@ -9,7 +10,7 @@ use lib.Dec.{eqb, leb}
 use lib.ListN.{length, get_or}
 use denote.Ref.{Bor}
 use borrow.Author.Tests.{eqb-true}
-use Rattle.laws.specs.Tests.{if◌then◌else◌, first_of}
+use Rattle.laws.specs.Tests.{first_of}
 use Rattle.laws.specs.Lists.{part}
 use Rattle.laws.proofs.Tests.{case}
 use Rattle.block.specs.Block.{sample_size, Bytes}

@@ -1,6 +1,7 @@
 -- Document 02, Ask 1: a log, lent memory of whole blocks "of which the first so many are used".
 -- Assumes nothing.
-use Rattle.laws.specs.Words.{ℕ, zero, suc, ◌+◌, ◌-◌, ◌*◌, ◌/◌, ◌%◌, ◌≤◌, ◌≡◌, Bool, true, not, ◌&&◌, ◌||◌, List, [], ◌∷◌, ◌++◌, length, eqb, ltb, leb, if◌then◌else◌, Row, at, patch, part}
+use Rattle.std.specs.Prelude.{◌+◌, ◌-◌, ◌*◌, ◌/◌, ◌%◌, ◌≤◌, ◌≡◌, ◌&&◌, ◌||◌, ◌∷◌, ◌++◌, if◌then◌else◌}
+use Rattle.laws.specs.Words.{ℕ, zero, suc, Bool, true, not, List, [], length, eqb, ltb, leb, Row, at, patch, part}
 use Rattle.block.specs.Block.{block_size, sample_size, number, count, most_samples, slot, samples_in, sound_block, fresh, grown}
 
 -- ---- blocks

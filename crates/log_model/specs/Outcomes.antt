@@ -1,6 +1,7 @@
 -- What each call on a log promises, for every input: an equation for each thing that it leaves or answers.
 -- Assumes nothing.
-use Rattle.laws.specs.Words.{ℕ, suc, ◌+◌, ◌≡◌, List, [], ◌∷◌, ◌++◌, eqb, get_or, if◌then◌else◌, Row, first_of, Bor}
+use Rattle.std.specs.Prelude.{◌+◌, ◌≡◌, ◌∷◌, ◌++◌, if◌then◌else◌}
+use Rattle.laws.specs.Words.{ℕ, suc, List, [], eqb, get_or, Row, first_of, Bor}
 use Rattle.block.specs.Block.{Bytes}
 use Rattle.log_model.specs.Log.{samples, last_number, place_of, after_power_up, after_add, used_after, add_rows, power_up_rows, sample_rows, Fit}
 

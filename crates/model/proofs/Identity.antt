@@ -1,6 +1,7 @@
 -- Document 01, "Identity": trimming goes byte by byte from a field's end, so it leaves out the trailing 20h bytes, all of them and
 -- nothing else; where the six fields lie is computed; and the view and its place as numbers go by the same start and length.
 -- Assumes nothing.
+use Rattle.std.specs.Prelude.{if◌then◌else◌}
 use mathlib.Core.Path.{◌≡◌, refl, sym, ◌∙◌}
 use mathlib.Core.Logic.{◌≢◌}
 use mathlib.Core.Bool.{Bool, true, false, ◌||◌}
@@ -11,7 +12,7 @@ use lib.Dec.{eqb, leb}
 use lib.ListN.{length}
 use denote.Ref.{Bor}
 use borrow.Author.Tests.{eqb-true, eqb-false, leb-true, eq-eqb, ne_eqb, not-true, not-false}
-use Rattle.laws.specs.Tests.{if◌then◌else◌, covers, first_of}
+use Rattle.laws.specs.Tests.{covers, first_of}
 use Rattle.laws.specs.Lists.{at, part, table, sum}
 use Rattle.laws.proofs.Tests.{case, if_elim, and_left, and_right, covers_true}
 use Rattle.laws.proofs.Rows.{first_none}

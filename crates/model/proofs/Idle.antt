@@ -2,6 +2,7 @@
 -- state, after an accepted reset, short histories are computed: a flag rises for both ports, a read clears it for its reader alone,
 -- the condition raises it again, a mask holds it back from the interrupt but not from a reader. All these calls are accepted.
 -- Assumes nothing.
+use Rattle.std.specs.Prelude.{if◌then◌else◌}
 use mathlib.Core.Path.{◌≡◌, refl, ap, ◌∙◌}
 use mathlib.Core.Bool.{true, false}
 use mathlib.Core.List.{List}
@@ -9,7 +10,7 @@ use Prim.Native.Nat.{ℕ, zero, suc, ◌+◌, ◌*◌}
 use lib.Dec.{eqb}
 use lib.ListN.{length, replicate}
 use borrow.Author.Tests.{eqb-true}
-use Rattle.laws.specs.Tests.{if◌then◌else◌, within}
+use Rattle.laws.specs.Tests.{within}
 use Rattle.laws.specs.Bits.{bit}
 use Rattle.laws.specs.Lists.{at, sum, table, patch}
 use Rattle.laws.proofs.Tests.{and_left, and_right}

@@ -1,6 +1,7 @@
 -- What lasts from one accepted reset to the next: page 00h, the thresholds and bit 2 of byte 2, and so what looks at nothing else. No
 -- sample changes these, and none of the places is on the shared list, where alone writes change the memory (computed, `untouched`).
 -- Assumes nothing.
+use Rattle.std.specs.Prelude.{if◌then◌else◌}
 use mathlib.Core.Path.{◌≡◌, refl, sym, ap, ap₂, ◌∙◌, fun_ext}
 use Prim.Native.Nat.{ℕ, zero, suc, ◌+◌, ◌-◌, ◌*◌, ◌/◌, ◌%◌, ◌≤◌, ◌<◌}
 use mathlib.Core.Bool.{Bool, true, false, true≢false, not, ◌&&◌, ◌||◌}
@@ -9,7 +10,7 @@ use lib.Arith.{mod-mul, digits_div}
 use lib.Dec.{eqb, lit<}
 use borrow.Author.Tests.{not-true, ne_eqb}
 use native.Mathlib.Omega.{arith}
-use Rattle.laws.specs.Tests.{if◌then◌else◌, ◌to◌}
+use Rattle.laws.specs.Tests.{◌to◌}
 use Rattle.laws.specs.Bits.{bit}
 use Rattle.laws.specs.Lists.{at}
 use Rattle.laws.proofs.Tests.{case, if_both, or_left, or_right, covers_in, covers_true, covers_above}

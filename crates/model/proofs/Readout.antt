@@ -1,6 +1,7 @@
 -- Document 01, "Monitors, limits": a whole number of at most 53 binary digits over 256 is a float, so the one division rounds nothing and
 -- a temperature is exact. When nothing is measured goes by which monitors are optional, and that is computed.
 -- Assumes nothing.
+use Rattle.std.specs.Prelude.{if◌then◌else◌}
 use mathlib.Core.Path.{◌≡◌, refl, sym, ap, ◌∙◌}
 use mathlib.Core.Logic.{◌↔◌}
 use mathlib.Core.Bool.{Bool, true, false, false≢true, not, ◌&&◌, ◌||◌, beq}
@@ -16,7 +17,7 @@ use lib.Ieee.Fits.{down_pos}
 use lib.Ieee.Exact.{HasValue, round_exact}
 use lib.Ieee.Back.{round_whole}
 use lib.Ieee.Scale.{round_same}
-use Rattle.laws.specs.Tests.{if◌then◌else◌, first_of}
+use Rattle.laws.specs.Tests.{first_of}
 use Rattle.laws.specs.Bits.{has}
 use Rattle.laws.specs.Lists.{at}
 use Rattle.laws.proofs.Tests.{case, if_elim, beq_same}

@@ -1,6 +1,7 @@
 -- A record is sound if its page is supported, one byte is 0, and four have their low four bits 0. Clearing, raising and writing leave
 -- these bits 0, only a supported page is entered, and which pages are lasts (Lasting.antt): so each call keeps both records sound.
 -- Assumes nothing.
+use Rattle.std.specs.Prelude.{if◌then◌else◌}
 use mathlib.Core.Path.{◌≡◌, refl, ap, ◌∙◌}
 use Prim.Native.Nat.{ℕ, suc, ◌%◌, ◌<◌}
 use mathlib.Core.Bool.{Bool, true, false, false≢true, not}
@@ -9,7 +10,7 @@ use lib.Bits.{or_zero_r}
 use lib.Dec.{ltb, eqb}
 use borrow.Author.Tests.{eqb-true, ne_eqb, ltb-true, ltb-false}
 use native.Mathlib.Omega.{arith}
-use Rattle.laws.specs.Tests.{if◌then◌else◌, covers}
+use Rattle.laws.specs.Tests.{covers}
 use Rattle.laws.specs.Bits.{has, splice}
 use Rattle.laws.proofs.Tests.{case, and_left, and_right, and_both, if_both}
 use Rattle.laws.proofs.Bits.{or_high, splice_low}

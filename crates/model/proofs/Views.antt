@@ -1,11 +1,11 @@
 -- A port's own writes go by what the port sees, and so does what the recorder reads, save on the shared list.
 -- Assumes nothing.
+use Rattle.std.specs.Prelude.{if◌then◌else◌}
 use mathlib.Core.Path.{◌≡◌, refl, ap, ◌∙◌, fun_ext}
 use mathlib.Core.Bool.{Bool, false}
 use mathlib.Core.List.{List, [], ◌∷◌}
 use Prim.Native.Nat.{ℕ, suc}
 use lib.Dec.{eqb}
-use Rattle.laws.specs.Tests.{if◌then◌else◌}
 use Rattle.ports.proofs.Fence.{inside_fence, fence_map, via, give_in}
 use Rattle.model.specs.Module.{document01}
 use Rattle.model.specs.Ports.{Port, recorder, Places, State}

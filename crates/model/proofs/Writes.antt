@@ -1,6 +1,7 @@
 -- Demand 2, writes, over the model: "A write changes the writable bits it addresses and nothing else." No two addresses of a page lead to
 -- one place (computed, by a way back from place to address), so at most one byte of a write meets a place, and there goes by its class.
 -- Assumes nothing.
+use Rattle.std.specs.Prelude.{if◌then◌else◌}
 use mathlib.Core.Path.{◌≡◌, refl, sym, ◌∙◌}
 use mathlib.Core.Logic.{◌≢◌}
 use mathlib.Core.Bool.{Bool, true, false, ◌&&◌}
@@ -11,7 +12,7 @@ use native.Mathlib.Omega.{arith}
 use lib.Dec.{ltb, eqb}
 use lib.ListN.{length}
 use borrow.Author.Tests.{eqb-true, eq-eqb, ne_eqb, ltb-true, ltb-false, le-leb, lt-leb, not-true, not-false}
-use Rattle.laws.specs.Tests.{if◌then◌else◌, within, ◌to◌}
+use Rattle.laws.specs.Tests.{within, ◌to◌}
 use Rattle.laws.specs.Bits.{bit}
 use Rattle.laws.specs.Lists.{at}
 use Rattle.laws.proofs.Tests.{case, if_elim, and_left, and_right, or_left, covers_true}

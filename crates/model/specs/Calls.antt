@@ -1,7 +1,8 @@
 -- What a call leaves and answers, and histories of calls: those of any module with two ports (ports, specs/Effects.antt), with what
 -- document 01 says of each call.
 -- Assumes nothing.
-use Rattle.laws.specs.Words.{ℕ, List, [], eqb, if◌then◌else◌}
+use Rattle.std.specs.Prelude.{if◌then◌else◌}
+use Rattle.laws.specs.Words.{ℕ, List, [], eqb}
 use Rattle.ports.specs.Effects
 pub use Rattle.ports.specs.Effects.{Answer}
 use Rattle.ports.specs.Histories.{History, run_of}

@@ -1,7 +1,8 @@
 -- The words that the demands use beside those of any module with two ports (ports, specs/Demands.antt): which conditions stood since,
 -- which bit a write reaches, what lasts.
 -- Assumes nothing.
-use Rattle.laws.specs.Words.{ℕ, ◌+◌, ◌<◌, ◌≡◌, Bool, true, false, Option, none, some, List, length, if◌then◌else◌, none_of, bit, has, at}
+use Rattle.std.specs.Prelude.{◌+◌, ◌<◌, ◌≡◌, if◌then◌else◌}
+use Rattle.laws.specs.Words.{ℕ, Bool, true, false, Option, none, some, List, length, none_of, bit, has, at}
 use Rattle.ports.specs.Demands
 unfoldable pub use Rattle.ports.specs.Demands.{only}
 pub use Rattle.model.specs.Ports.{is_by, concerns, is_reset}

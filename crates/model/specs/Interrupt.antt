@@ -1,6 +1,7 @@
 -- The count and the interrupt: document 01 gives the masks under "Writing", the count under "Refusal numbers and their order".
 -- Assumes nothing.
-use Rattle.laws.specs.Words.{ℕ, Bool, List, [], ◌∷◌}
+use Rattle.std.specs.Prelude.{◌∷◌}
+use Rattle.laws.specs.Words.{ℕ, Bool, List, []}
 use Rattle.ports.specs.Interrupt.{count_of, stands_of}
 pub use Rattle.ports.specs.Interrupt.{Pair, through, bits, count_pair}
 use Rattle.model.specs.Ports.{Places}

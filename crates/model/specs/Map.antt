@@ -8,7 +8,8 @@
 --          640  operator's record   flags of 3 to 14, masks 100 to 104, masks 242 to 247, page
 --          664  recorder's record   the same
 -- Assumes nothing.
-use Rattle.laws.specs.Words.{ℕ, ◌+◌, ◌-◌, ◌*◌, ◌%◌, Bool, not, ◌&&◌, ◌||◌, ltb, eqb, if◌then◌else◌, Run, ◌to◌, covers, within, has}
+use Rattle.std.specs.Prelude.{◌+◌, ◌-◌, ◌*◌, ◌%◌, ◌&&◌, ◌||◌, if◌then◌else◌}
+use Rattle.laws.specs.Words.{ℕ, Bool, not, ltb, eqb, Run, ◌to◌, covers, within, has}
 use Rattle.model.specs.Ports.{Port, operator, recorder, Places}
 
 -- ---- the memory

@@ -1,7 +1,8 @@
 -- Document 01, "Marked examples": M1 to M12, a row each. A row holds whatever stands in all that the example does not give: any other
 -- memory, any other sample bytes, any state with a sound record, any bytes written.
 -- Assumes nothing.
-use Rattle.laws.specs.Words.{ℕ, ◌<◌, ◌≤◌, ◌≡◌, ℤ, pos, neg_ℤ, false, true, List, [], ◌∷◌, length, bit, at}
+use Rattle.std.specs.Prelude.{◌<◌, ◌≤◌, ◌≡◌, ◌∷◌}
+use Rattle.laws.specs.Words.{ℕ, ℤ, pos, neg_ℤ, false, true, List, [], length, bit, at}
 use Rattle.model.specs.Ports.{Places, State, nobody, caller, read, write}
 use Rattle.model.specs.Map.{sound}
 use Rattle.model.specs.Samples.{degrees, temperature, supply, rx_power, threshold, sampled, conds}

@@ -1,6 +1,7 @@
 -- Document 01's module: what its sections say, in the shape that any module with two ports has (ports, specs/Modules.antt).
 -- Assumes nothing.
-use Rattle.laws.specs.Words.{ℕ, ◌*◌, List}
+use Rattle.std.specs.Prelude.{◌*◌}
+use Rattle.laws.specs.Words.{ℕ, List}
 use Rattle.ports.specs.Modules.{Module}
 use Rattle.model.specs.Map.{page_size, memory_size, record_size, page_at, sound, seat}
 use Rattle.model.specs.Reset.{reset_rows, fresh}

@@ -1,6 +1,7 @@
 -- What each call promises, for every input: an equation for each thing that it leaves or answers.
 -- Assumes nothing.
-use Rattle.laws.specs.Words.{ℕ, ◌+◌, ◌≡◌, List, length, eqb, Float, if◌then◌else◌, Bor}
+use Rattle.std.specs.Prelude.{◌+◌, ◌≡◌, if◌then◌else◌}
+use Rattle.laws.specs.Words.{ℕ, List, length, eqb, Float, Bor}
 pub use Rattle.laws.specs.Words.{Told, refused, given, told}
 use Rattle.ports.specs.Outcomes
 use Rattle.model.specs.Ports.{Call}

@@ -1,6 +1,7 @@
 -- Document 01, "Reading": what each address reads, what a read clears, and the shared list.
 -- Assumes nothing.
-use Rattle.laws.specs.Words.{ℕ, ◌+◌, ◌*◌, Bool, false, not, ◌&&◌, ◌||◌, ltb, eqb, if◌then◌else◌, one, ◌to◌, covers, within, bit}
+use Rattle.std.specs.Prelude.{◌+◌, ◌*◌, ◌&&◌, ◌||◌, if◌then◌else◌}
+use Rattle.laws.specs.Words.{ℕ, Bool, false, not, ltb, eqb, one, ◌to◌, covers, within, bit}
 use Rattle.model.specs.Ports.{Places}
 use Rattle.model.specs.Map.{in_page, status_at, flags, page_at, Seat, flag, mine, common, status, blank, seat}
 use Rattle.model.specs.Reset.{in_page02}

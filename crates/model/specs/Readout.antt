@@ -1,6 +1,7 @@
 -- Document 01, "Identity, monitors, limits".
 -- Assumes nothing.
-use Rattle.laws.specs.Words.{ℕ, zero, suc, ◌+◌, ◌-◌, ◌*◌, Bool, not, ◌&&◌, ◌||◌, List, [], ◌∷◌, length, get_or, eqb, ℤ, pos, nat_abs, non_neg, div, of_int, Float, binary64, HasValue, if◌then◌else◌, covers, Run, ◌to◌, has, at, part}
+use Rattle.std.specs.Prelude.{◌+◌, ◌-◌, ◌*◌, ◌&&◌, ◌||◌, ◌∷◌, if◌then◌else◌}
+use Rattle.laws.specs.Words.{ℕ, zero, suc, Bool, not, List, [], length, get_or, eqb, ℤ, pos, nat_abs, non_neg, div, of_int, Float, binary64, HasValue, covers, Run, ◌to◌, has, at, part}
 use Rattle.model.specs.Ports.{Places}
 use Rattle.model.specs.Map.{page_size, status_at}
 use Rattle.model.specs.Reset.{codes_right}

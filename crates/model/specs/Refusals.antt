@@ -1,7 +1,8 @@
 -- Document 01, "Refusal numbers and their order": what each call refuses, and in which order. The tests and the order of reset, sample,
 -- read and write are those of any module with two ports (ports, specs/Modules.antt), with document 01's lengths.
 -- Assumes nothing.
-use Rattle.laws.specs.Words.{ℕ, Bool, not, ◌||◌, List, [], ◌∷◌, length, leb, covers, Row, first_of}
+use Rattle.std.specs.Prelude.{◌||◌, ◌∷◌}
+use Rattle.laws.specs.Words.{ℕ, Bool, not, List, [], length, leb, covers, Row, first_of}
 use Rattle.ports.specs.Modules
 pub use Rattle.ports.specs.Modules.{miscounted, across}
 use Rattle.model.specs.Ports.{State, Call}

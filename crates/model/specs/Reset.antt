@@ -1,6 +1,7 @@
 -- Document 01, "Reset": the check codes, and the memory after an accepted reset.
 -- Assumes nothing.
-use Rattle.laws.specs.Words.{ℕ, ◌+◌, ◌-◌, ◌*◌, ◌%◌, Bool, not, ◌&&◌, ◌||◌, List, [], ◌∷◌, length, eqb, if◌then◌else◌, Row, Run, ◌to◌, within, bit, at, part, sum}
+use Rattle.std.specs.Prelude.{◌+◌, ◌-◌, ◌*◌, ◌%◌, ◌&&◌, ◌||◌, ◌∷◌, if◌then◌else◌}
+use Rattle.laws.specs.Words.{ℕ, Bool, not, List, [], length, eqb, Row, Run, ◌to◌, within, bit, at, part, sum}
 use Rattle.model.specs.Map.{page_size, memory_size, in_page, status_at}
 
 -- ---- check codes

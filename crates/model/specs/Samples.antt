@@ -1,6 +1,7 @@
 -- Document 01, "Samples and conditions": the five quantities, the one alarm rule, what a sample stores and raises.
 -- Assumes nothing.
-use Rattle.laws.specs.Words.{ℕ, suc, ◌+◌, ◌-◌, ◌*◌, ◌/◌, ◌%◌, Bool, true, false, not, ◌&&◌, ◌||◌, List, [], ◌∷◌, bit_or, ltb, eqb, ℤ, pos, negsuc, lt_z, if◌then◌else◌, one, covers, has, at}
+use Rattle.std.specs.Prelude.{◌+◌, ◌-◌, ◌*◌, ◌/◌, ◌%◌, ◌&&◌, ◌||◌, ◌∷◌, if◌then◌else◌}
+use Rattle.laws.specs.Words.{ℕ, suc, Bool, true, false, not, List, [], bit_or, ltb, eqb, ℤ, pos, negsuc, lt_z, one, covers, has, at}
 use Rattle.model.specs.Ports.{Places}
 use Rattle.model.specs.Map.{paged, status_at, flags}
 

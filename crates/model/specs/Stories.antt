@@ -1,6 +1,7 @@
 -- Short histories after an accepted reset, and what is shown then: for the faults that document 01 expects and the four idle programs.
 -- Assumes nothing.
-use Rattle.laws.specs.Words.{ℕ, Bool, true, ◌&&◌, List, [], ◌∷◌, ◌||◌, eqb, if◌then◌else◌, replicate, table}
+use Rattle.std.specs.Prelude.{◌&&◌, ◌∷◌, ◌||◌, if◌then◌else◌}
+use Rattle.laws.specs.Words.{ℕ, Bool, true, List, [], eqb, replicate, table}
 use Rattle.model.specs.Ports.{Port, operator, recorder, State, Call, reset, sample, read, write}
 use Rattle.model.specs.Map.{page_size}
 use Rattle.model.specs.Reading.{seen}

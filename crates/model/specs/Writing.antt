@@ -1,6 +1,7 @@
 -- Document 01, "Writing": writable bits by class, and what a written byte leaves.
 -- Assumes nothing.
-use Rattle.laws.specs.Words.{ℕ, zero, suc, ◌+◌, Bool, true, false, ◌&&◌, ◌||◌, List, [], ◌∷◌, leb, ltb, eqb, if◌then◌else◌, covers, splice}
+use Rattle.std.specs.Prelude.{◌+◌, ◌&&◌, ◌||◌, ◌∷◌, if◌then◌else◌}
+use Rattle.laws.specs.Words.{ℕ, zero, suc, Bool, true, false, List, [], leb, ltb, eqb, covers, splice}
 use Rattle.model.specs.Ports.{Port, operator, recorder, Places, State, give}
 use Rattle.model.specs.Map.{flags, low_masks, high_masks, low_mask_of, page_at, supported, Seat, flag, mine, common, status, blank, seat}
 use Rattle.model.specs.Reading.{shared}

@@ -1,6 +1,7 @@
 -- What the read puts over the bytes of the memory, in the order in which it does.
 -- Assumes nothing.
-use Rattle.laws.specs.Words.{ℕ, eqb, if◌then◌else◌, ◌to◌, within}
+use Rattle.std.specs.Prelude.{if◌then◌else◌}
+use Rattle.laws.specs.Words.{ℕ, eqb, ◌to◌, within}
 use Rattle.model.specs.Ports.{Places}
 use Rattle.model.specs.Map.{flags, low_masks, flag_of, low_mask_of, page_at}
 

@@ -1,8 +1,8 @@
 // The read, on lent memory.
 // Proved: for every input, the refusal, the count, the bytes left and the output are those of the model's read. What lies in the memory
 // is copied as a run, and what is the port's own is put over it.
-ghost use Rattle.std.specs.Prelude.{◌≡◌, ◌&&◌, ◌<◌, ◌≤◌, ◌+◌, eqb, length};
-ghost use Rattle.laws.specs.Tests.{if◌then◌else◌, ◌to◌, within};
+ghost use Rattle.std.specs.Prelude.{◌≡◌, ◌&&◌, ◌<◌, ◌≤◌, ◌+◌, eqb, length, if◌then◌else◌};
+ghost use Rattle.laws.specs.Tests.{◌to◌, within};
 ghost use Rattle.laws.specs.Lists.{at, patch};
 ghost use Rattle.model.specs.Ports.{read, caller};
 ghost use Rattle.model.specs.Map.{state_size, record_size, page_at, base, flags, high_masks, high_mask_of, status_at};

@@ -1,7 +1,6 @@
 // The reset, on lent memory.
 // Proved: for every state and image, the refusal, the counts and the bytes left are those of the model's reset.
-ghost use Rattle.std.specs.Prelude.{◌≡◌, ◌<◌, ◌≤◌, ◌+◌, ◌*◌, length};
-ghost use Rattle.laws.specs.Tests.{if◌then◌else◌};
+ghost use Rattle.std.specs.Prelude.{◌≡◌, ◌<◌, ◌≤◌, ◌+◌, ◌*◌, length, if◌then◌else◌};
 ghost use Rattle.laws.specs.Lists.{at, patch};
 ghost use Rattle.model.specs.Ports.{reset};
 ghost use Rattle.model.specs.Map.{memory_size, record_size, state_size};

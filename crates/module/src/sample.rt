@@ -1,7 +1,6 @@
 // The sample, on lent memory.
 // Proved: for every state and sample, the refusal, both counts and the bytes left are those of the model's sample.
-ghost use Rattle.std.specs.Prelude.{◌≡◌, ◌<◌, ◌≤◌, ◌+◌, length};
-ghost use Rattle.laws.specs.Tests.{if◌then◌else◌};
+ghost use Rattle.std.specs.Prelude.{◌≡◌, ◌<◌, ◌≤◌, ◌+◌, length, if◌then◌else◌};
 ghost use Rattle.laws.specs.Lists.{at, patch};
 ghost use Rattle.model.specs.Ports.{sample};
 ghost use Rattle.model.specs.Map.{memory_size, state_size};

@@ -2,9 +2,9 @@
 // Each contract is a `patch`: a run of places replaced, the rest as it was. No document is known here.
 #![tactic(auto)]
 
-ghost use Rattle.std.specs.Prelude.{◌≡◌, ◌+◌, ◌-◌, ◌≤◌, max, min, length};
+ghost use Rattle.std.specs.Prelude.{◌≡◌, ◌+◌, ◌-◌, ◌≤◌, max, min, length, if◌then◌else◌};
 ghost use Rattle.std.specs.Int.Bits.{bit_or};
-ghost use Rattle.laws.specs.Tests.{if◌then◌else◌, covers};
+ghost use Rattle.laws.specs.Tests.{covers};
 ghost use Rattle.laws.specs.Lists.{at, patch};
 ghost use Rattle.moves.specs.Copied.{copied};
 

@@ -1,6 +1,7 @@
 -- Bytes and states are the same thing: a place of the bytes is one of the memory or of one record (`spot`), and there the way to a state
 -- and the way back undo one another, as long as nothing stands past the state's ends.
 -- Assumes nothing.
+use Rattle.std.specs.Prelude.{if◌then◌else◌}
 use mathlib.Core.Path.{◌≡◌, sym, ◌∙◌, fun_ext, subst}
 use mathlib.Core.List.{List}
 use Prim.Native.Nat.{ℕ, ◌+◌, ◌-◌, ◌≤◌, ◌<◌}
@@ -9,7 +10,6 @@ use lib.Dec.{ltb}
 use lib.ListN.{length}
 use lib.Seq.{ext_get_or}
 use borrow.Author.Tests.{ltb-true, ltb-false, lt-ltb, le-ltb}
-use Rattle.laws.specs.Tests.{if◌then◌else◌}
 use Rattle.laws.specs.Lists.{at}
 use Rattle.laws.proofs.Tests.{case}
 use Rattle.laws.proofs.Lists.{table_at, table_length}

@@ -1,10 +1,10 @@
 -- What a port sees of a state: its own record, and the memory with all that the other port may write blanked. So what looks at no blanked
 -- place, and what changes each byte by its place and its own value, does the same on two states that look the same to the port.
 -- Assumes nothing.
+use Rattle.std.specs.Prelude.{if◌then◌else◌}
 use mathlib.Core.Path.{◌≡◌, refl, sym, ap, ap₂, ◌∙◌, fun_ext}
 use mathlib.Core.Bool.{Bool, true, false, true≢false, false≢true}
 use Prim.Native.Nat.{ℕ}
-use Rattle.laws.specs.Tests.{if◌then◌else◌}
 use Rattle.ports.specs.Ports.{Port, operator, recorder, same, Places, State, give}
 use Rattle.ports.specs.Modules.{Module}
 

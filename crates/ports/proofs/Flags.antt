@@ -1,6 +1,7 @@
 -- Demand 2, the flag rule, for any lawful module: each call makes a flag byte 0 or ORs into it the conditions that it brings
 -- (`byte_law`). So each of its bits is up exactly if its condition was brought and not wiped since (`latch_since` of Histories.antt).
 -- Assumes nothing.
+use Rattle.std.specs.Prelude.{if◌then◌else◌}
 use mathlib.Core.Path.{◌≡◌, refl, sym, ap, ◌∙◌}
 use mathlib.Core.Logic.{◌↔◌}
 use mathlib.Core.Bool.{Bool, true, false, not, ◌&&◌, ◌||◌, false≢true, and-false}
@@ -8,7 +9,7 @@ use mathlib.Core.List.{List}
 use Prim.Native.Nat.{ℕ}
 use lib.Bits.{bit_or, or_zero_r}
 use lib.ListN.{length}
-use Rattle.laws.specs.Tests.{if◌then◌else◌, covers, none_of}
+use Rattle.laws.specs.Tests.{covers, none_of}
 use Rattle.laws.specs.Bits.{bit, has}
 use Rattle.laws.proofs.Tests.{case}
 use Rattle.laws.proofs.Bits.{bit_none, has_or, has_bit, bit_has, bit_lacks}

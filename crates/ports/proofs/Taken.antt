@@ -1,5 +1,6 @@
 -- What the code of a call goes by: its refusals in steps, as it finds them, and what an accepted call relies on.
 -- Assumes nothing.
+use Rattle.std.specs.Prelude.{if◌then◌else◌}
 use mathlib.Core.Path.{◌≡◌, refl, sym, ap, ◌∙◌}
 use mathlib.Core.Bool.{Bool, true, false, not, ◌||◌}
 use mathlib.Core.List.{List, [], ◌∷◌, ◌++◌}
@@ -8,7 +9,7 @@ use native.Mathlib.Omega.{arith}
 use lib.Dec.{eqb}
 use lib.ListN.{length}
 use borrow.Author.Tests.{eq-eqb, eqb-true, eqb-false, ltb-false, not-true, not-false}
-use Rattle.laws.specs.Tests.{if◌then◌else◌, Row, first_of}
+use Rattle.laws.specs.Tests.{Row, first_of}
 use Rattle.laws.specs.Lists.{at}
 use Rattle.laws.proofs.Tests.{if_not, and_left, and_right, and_both, or_left, or_right}
 use Rattle.laws.proofs.Rows.{first_none, first_append}

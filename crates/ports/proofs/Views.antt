@@ -1,6 +1,7 @@
 -- Demand 3, for any lawful module: a port's own calls, samples and resets go by what the port sees, and the other's are out of its sight,
 -- so it can't tell apart two histories that differ in the other's calls; and what neither port can tell apart is the same state.
 -- Assumes nothing.
+use Rattle.std.specs.Prelude.{if◌then◌else◌}
 use mathlib.Core.Path.{◌≡◌, refl, sym, ap, ap₂, ◌∙◌, subst}
 use mathlib.Core.Bool.{Bool, true, false, true≢false}
 use mathlib.Core.List.{List}
@@ -9,7 +10,7 @@ use native.Mathlib.Omega.{arith}
 use lib.Dec.{ltb, eqb}
 use lib.ListN.{length}
 use borrow.Author.Tests.{eqb-true, ltb-true, ltb-false}
-use Rattle.laws.specs.Tests.{if◌then◌else◌, first_of}
+use Rattle.laws.specs.Tests.{first_of}
 use Rattle.laws.specs.Lists.{at}
 use Rattle.laws.proofs.Tests.{case, if_elim}
 use Rattle.laws.proofs.Fronts.{front_agree}

@@ -1,6 +1,7 @@
 -- The state as the bytes that the caller lends, and each call on them.
 -- Assumes nothing.
-use Rattle.laws.specs.Words.{ℕ, ◌+◌, ◌-◌, ◌≤◌, ◌≡◌, List, ◌∷◌, ltb, eqb, if◌then◌else◌, Row, first_of, at, table}
+use Rattle.std.specs.Prelude.{◌+◌, ◌-◌, ◌≤◌, ◌≡◌, ◌∷◌, if◌then◌else◌}
+use Rattle.laws.specs.Words.{ℕ, List, ltb, eqb, Row, first_of, at, table}
 use Rattle.ports.specs.Ports.{Port, operator, recorder, Places, State, CallOf, lent}
 use Rattle.ports.specs.Histories.{History, run_of}
 use Rattle.ports.specs.Modules.{Module, base, state_size, wrong_size, rows}

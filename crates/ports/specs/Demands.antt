@@ -1,6 +1,7 @@
 -- The words of the demands, for any module: what stood since, and what two histories agree on.
 -- Assumes nothing.
-use Rattle.laws.specs.Words.{ℕ, ◌+◌, ◌<◌, ◌≡◌, ◌↔◌, Bool, true, false, not, ◌&&◌, List, length, ltb, covers, none_of, at}
+use Rattle.std.specs.Prelude.{◌+◌, ◌<◌, ◌≡◌, ◌↔◌, ◌&&◌}
+use Rattle.laws.specs.Words.{ℕ, Bool, true, false, not, List, length, ltb, covers, none_of, at}
 use Rattle.ports.specs.Ports.{Port, operator, recorder, nobody, is_by, State, CallOf, reset, sample, read, write, concerns}
 use Rattle.ports.specs.Histories.{History, only_of, SinceOf}
 use Rattle.ports.specs.Modules.{Module, base, read_rows, sample_rows}

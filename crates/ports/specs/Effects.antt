@@ -1,6 +1,7 @@
 -- What a call leaves and answers.
 -- Assumes nothing.
-use Rattle.laws.specs.Words.{ℕ, ◌+◌, List, [], if◌then◌else◌, patch}
+use Rattle.std.specs.Prelude.{◌+◌, if◌then◌else◌}
+use Rattle.laws.specs.Words.{ℕ, List, [], patch}
 use Rattle.ports.specs.Ports.{Port, caller, State, give, CallOf, reset, sample, read, write}
 use Rattle.ports.specs.Modules.{Module, refusal, accepted}
 

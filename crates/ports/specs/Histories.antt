@@ -1,6 +1,7 @@
 -- Histories of calls, the newest call last: what they leave, and what was brought and not wiped since.
 -- Assumes nothing.
-use Rattle.laws.specs.Words.{◌≡◌, Bool, true, not, ◌&&◌, List, [], ◌∷◌, if◌then◌else◌}
+use Rattle.std.specs.Prelude.{◌≡◌, ◌&&◌, ◌∷◌, if◌then◌else◌}
+use Rattle.laws.specs.Words.{Bool, true, not, List, []}
 
 infixl 20 ◌▷◌
 pub data History (C : Type 0) : Type 0 where

@@ -1,6 +1,7 @@
 -- What a document says of a module with two ports, and the refusals that follow: document 01's, with the module's own lengths.
 -- Assumes nothing.
-use Rattle.laws.specs.Words.{ℕ, ◌+◌, ◌*◌, Bool, not, ◌&&◌, ◌||◌, List, [], ◌∷◌, ◌++◌, length, ltb, eqb, Row, first_of}
+use Rattle.std.specs.Prelude.{◌+◌, ◌*◌, ◌&&◌, ◌||◌, ◌∷◌, ◌++◌}
+use Rattle.laws.specs.Words.{ℕ, Bool, not, List, [], length, ltb, eqb, Row, first_of}
 use Rattle.ports.specs.Ports.{Port, operator, recorder, same, nobody, caller, Places, State, CallOf, reset, sample, read, write}
 
 -- Image is what a reset takes

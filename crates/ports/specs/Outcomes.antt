@@ -1,6 +1,7 @@
 -- What each call promises, for every input: an equation for each thing that it leaves or answers.
 -- Assumes nothing.
-use Rattle.laws.specs.Words.{ℕ, ◌≡◌, List}
+use Rattle.std.specs.Prelude.{◌≡◌}
+use Rattle.laws.specs.Words.{ℕ, List}
 use Rattle.ports.specs.Ports.{operator, recorder, caller, CallOf, read, write}
 use Rattle.ports.specs.Histories.{History, start, ◌▷◌}
 use Rattle.ports.specs.Modules.{Module}

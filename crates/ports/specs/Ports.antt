@@ -1,7 +1,8 @@
 -- Two ports, the state that they share, and the calls on it.
 -- A state is what stands at each place: the module's memory, which both ports share, and one record for each port.
 -- Assumes nothing.
-use Rattle.laws.specs.Words.{ℕ, Bool, true, false, not, ◌&&◌, List, [], eqb, if◌then◌else◌}
+use Rattle.std.specs.Prelude.{◌&&◌, if◌then◌else◌}
+use Rattle.laws.specs.Words.{ℕ, Bool, true, false, not, List, [], eqb}
 
 pub data Port : Type 0 where
   operator recorder : Port

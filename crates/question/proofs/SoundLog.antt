@@ -1,6 +1,7 @@
 -- Document 02, Ask 9: what the question says of a sound log. It is what reading every sample says (EverySample.antt), so all is said of
 -- the list of samples, and of that Ask 1 tells what reading hands back and what an add, a power-up and any series of calls make of it.
 -- Assumes nothing.
+use Rattle.std.specs.Prelude.{if◌then◌else◌}
 use mathlib.Core.Path.{◌≡◌, sym, ap, ◌∙◌}
 use mathlib.Core.Bool.{true, false}
 use mathlib.Core.List.{List, [], ◌∷◌, ◌++◌}
@@ -11,7 +12,6 @@ use lib.Dec.{ltb}
 use lib.ListN.{length, get_or}
 use denote.Ref.{Bor}
 use borrow.Author.Tests.{le-ltb, ltb-false}
-use Rattle.laws.specs.Tests.{if◌then◌else◌}
 use Rattle.laws.specs.Lists.{part}
 use Rattle.laws.proofs.Tests.{case}
 use Rattle.block.specs.Block.{sample_size, Bytes}

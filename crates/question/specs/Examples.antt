@@ -1,6 +1,7 @@
 -- Document 02, Ask 9: the log that the computed examples speak of.
 -- Assumes nothing.
-use Rattle.laws.specs.Words.{ℕ, List, ◌∷◌, ◌++◌, replicate}
+use Rattle.std.specs.Prelude.{◌∷◌, ◌++◌}
+use Rattle.laws.specs.Words.{ℕ, List, replicate}
 use Rattle.block.specs.Examples.{summarised, empty, old, lying, marked2}
 
 abbrev pub recorded : List ℕ

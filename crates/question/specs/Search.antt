@@ -1,6 +1,7 @@
 -- Document 02, Ask 9: "When did that line die?" The first sample of a log that has a status bit.
 -- Assumes nothing.
-use Rattle.laws.specs.Words.{ℕ, zero, suc, ◌+◌, ◌/◌, ◌%◌, ◌<◌, ◌≤◌, ◌≡◌, Bool, true, false, not, ◌&&◌, ◌||◌, List, [], ◌∷◌, Option, none, some, length, get_or, eqb, ltb, if◌then◌else◌, Row, has, at, part}
+use Rattle.std.specs.Prelude.{◌+◌, ◌/◌, ◌%◌, ◌<◌, ◌≤◌, ◌≡◌, ◌&&◌, ◌||◌, ◌∷◌, if◌then◌else◌}
+use Rattle.laws.specs.Words.{ℕ, zero, suc, Bool, true, false, not, List, [], Option, none, some, length, get_or, eqb, ltb, Row, has, at, part}
 pub use Rattle.laws.specs.Words.{Told, refused, given, told}
 use Rattle.block.specs.Block.{sample_size, count, most_samples, slot, room_end, samples_in}
 use Rattle.log_model.specs.Log.{block, total, misfit}

@@ -1,6 +1,7 @@
 -- Where a field lies is settled by two tests, of the live page and of the factory page: every fact of a place or a view goes by these
 -- two cases. Of the trimming, one turn.
 -- Assumes nothing.
+use Rattle.std.specs.Prelude.{if◌then◌else◌}
 use mathlib.Core.Path.{◌≡◌, refl, sym, ◌∙◌}
 use mathlib.Core.Logic.{◌≢◌}
 use mathlib.Core.Bool.{Bool, true, false, ◌||◌}
@@ -11,7 +12,6 @@ use lib.Dec.{ltb, eqb}
 use lib.ListN.{length}
 use denote.Ref.{Bor}
 use borrow.Author.Tests.{ltb-true, ltb-false, eqb-true}
-use Rattle.laws.specs.Tests.{if◌then◌else◌}
 use Rattle.laws.specs.Lists.{at, part}
 use Rattle.laws.proofs.Tests.{case, or_left, or_right, covers_in, covers_below, covers_above}
 use Rattle.model.specs.Readout.{sound_page, field_start, field_length, page_used, trimmed}

@@ -1,6 +1,7 @@
 -- What the answers of `readout` stand for: document 01's number of a refusal, or its values.
 -- Assumes nothing.
-use Rattle.laws.specs.Words.{List, [], ◌∷◌, Float}
+use Rattle.std.specs.Prelude.{◌∷◌}
+use Rattle.laws.specs.Words.{List, [], Float}
 use Rattle.model.specs.Samples.{degrees, volts, milliwatts, milliamperes}
 use Rattle.model.specs.Readout.{Measured, measured, nothing}
 use Rattle.model.specs.Outcomes.{Told, refused, given}

@@ -1,6 +1,7 @@
 -- What a sample leaves, place by place: below 14 its conditions, above that both records with its conditions raised and its onsets marked;
 -- so the bytes are those of the definitions.
 -- Assumes nothing.
+use Rattle.std.specs.Prelude.{if◌then◌else◌}
 use mathlib.Core.Path.{◌≡◌, sym, ap, ◌∙◌}
 use mathlib.Core.List.{List}
 use Prim.Native.Nat.{ℕ, ◌+◌, ◌-◌, ◌≤◌, ◌<◌}
@@ -9,7 +10,7 @@ use lib.Bits.{bit_or, bit_and, bit_xor, or_zero_r}
 use lib.Dec.{eqb, ltb}
 use lib.ListN.{length, set, replicate, get_or-replicate}
 use borrow.Author.Tests.{eqb-true, eqb-false, ltb-true, ltb-false, lt-ltb, le-ltb}
-use Rattle.laws.specs.Tests.{if◌then◌else◌, covers}
+use Rattle.laws.specs.Tests.{covers}
 use Rattle.laws.specs.Lists.{at, table, patch}
 use Rattle.laws.proofs.Tests.{case, covers_in, covers_below, covers_true}
 use Rattle.laws.proofs.Lists.{table_at, is_table, patch_length, patch_at, patch_in, patch_below, patch_above, patch_else, patch_more, is_patch}

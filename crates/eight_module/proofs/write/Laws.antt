@@ -1,5 +1,6 @@
 -- The bytes of a write, one after the other: a mask byte more, or none; and all of them are what the definitions say of the record.
 -- Assumes nothing.
+use Rattle.std.specs.Prelude.{if◌then◌else◌}
 use mathlib.Core.Path.{◌≡◌, refl, ◌∙◌}
 use mathlib.Core.Bool.{true, false}
 use mathlib.Core.List.{List}
@@ -9,7 +10,7 @@ use lib.Bits.{bit_and}
 use lib.Dec.{eqb}
 use lib.ListN.{length, set, length-set}
 use borrow.Author.Tests.{eqb-true, eqb-false, eq-eqb, ne_eqb, lt-ltb}
-use Rattle.laws.specs.Tests.{if◌then◌else◌, covers, within}
+use Rattle.laws.specs.Tests.{covers, within}
 use Rattle.laws.specs.Lists.{at, patch}
 use Rattle.laws.proofs.Tests.{case, not_both, covers_in, covers_true, covers_none, covers_more}
 use Rattle.laws.proofs.Lists.{at_set, patch_length, patch_in, patch_else, patch_same, is_patch}

@@ -1,6 +1,7 @@
 -- The sample at a position in the steps of the functions: after i blocks `left` is how far the position is above their samples, so the
 -- sample is in the next block if that has more than `left`, and else that block's count is taken off.
 -- Assumes nothing.
+use Rattle.std.specs.Prelude.{if◌then◌else◌}
 use mathlib.Core.Path.{◌≡◌, refl, sym, ◌∙◌}
 use mathlib.Core.Logic.{◌≢◌}
 use mathlib.Core.Bool.{Bool, true, false, not, ◌&&◌}
@@ -12,7 +13,7 @@ use lib.Dec.{leb, eqb}
 use lib.ListN.{length, get_or}
 use denote.Ref.{Bor}
 use borrow.Author.Tests.{ne_eqb, eqb-true, not-true, lt-leb, le-leb, leb-false}
-use Rattle.laws.specs.Tests.{if◌then◌else◌, first_of}
+use Rattle.laws.specs.Tests.{first_of}
 use Rattle.laws.specs.Lists.{part}
 use Rattle.laws.proofs.Tests.{case, and_left, and_right}
 use Rattle.laws.proofs.Rows.{first_none}

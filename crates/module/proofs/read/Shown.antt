@@ -1,6 +1,7 @@
 -- What a read shows is put together in layers, each a run over the ones before; address by address the last layer that has it decides,
 -- and that is the order of the tests by which the model says where the address leads.
 -- Assumes nothing.
+use Rattle.std.specs.Prelude.{if◌then◌else◌}
 use mathlib.Core.Path.{◌≡◌, refl, ◌∙◌}
 use mathlib.Core.Logic.{◌≢◌}
 use mathlib.Core.Bool.{◌&&◌, and-false}
@@ -10,7 +11,7 @@ use native.Mathlib.Omega.{arith}
 use lib.Dec.{ltb, eqb}
 use lib.ListN.{length, set}
 use borrow.Author.Tests.{lt-ltb, ltb-true, ltb-false, eq-eqb, ne_eqb, eqb-true, eqb-false}
-use Rattle.laws.specs.Tests.{if◌then◌else◌, ◌to◌, within}
+use Rattle.laws.specs.Tests.{◌to◌, within}
 use Rattle.laws.specs.Lists.{at, patch}
 use Rattle.laws.proofs.Tests.{case, covers_in, covers_below, covers_one}
 use Rattle.laws.proofs.Lists.{patch_same}

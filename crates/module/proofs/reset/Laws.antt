@@ -1,13 +1,14 @@
 -- What a reset leaves, place by place: below 640 the runs that are brought, emptied and set, laid over each other, are the model's fresh
 -- memory; above it both records are 0, so that their counts are too.
 -- Assumes nothing.
+use Rattle.std.specs.Prelude.{if◌then◌else◌}
 use mathlib.Core.Path.{◌≡◌, refl, sym, ap, ◌∙◌}
 use mathlib.Core.Bool.{not}
 use mathlib.Core.List.{List, [], ◌∷◌}
 use Prim.Native.Nat.{ℕ, ◌+◌, ◌*◌, ◌≤◌, ◌<◌}
 use native.Mathlib.Omega.{arith}
 use lib.ListN.{length, set}
-use Rattle.laws.specs.Tests.{if◌then◌else◌, Run, ◌to◌}
+use Rattle.laws.specs.Tests.{Run, ◌to◌}
 use Rattle.laws.specs.Lists.{at, patch, sum}
 use Rattle.laws.specs.Bits.{bit}
 use Rattle.laws.proofs.Tests.{if_not, covers_in}

@@ -1,6 +1,7 @@
 -- What a sample leaves, place by place: below 640 the runs of its quantities laid over each other are the model's stored memory, above
 -- it the flag bytes of both records are raised; so the bytes are the model's.
 -- Assumes nothing.
+use Rattle.std.specs.Prelude.{if◌then◌else◌}
 use mathlib.Core.Path.{◌≡◌, refl, sym, ap, ◌∙◌}
 use mathlib.Core.Bool.{and-true, and-false}
 use mathlib.Core.List.{List, [], ◌∷◌}
@@ -10,7 +11,6 @@ use lib.Bits.{bit_or}
 use lib.Dec.{ltb, eqb, lit<}
 use lib.ListN.{length, set, length-set}
 use borrow.Author.Tests.{eqb-true, ltb-true, ltb-false}
-use Rattle.laws.specs.Tests.{if◌then◌else◌}
 use Rattle.laws.specs.Lists.{at, table, patch}
 use Rattle.laws.proofs.Tests.{case}
 use Rattle.laws.proofs.Lists.{table_at, patch_length, patch_at, patch_in, patch_above, patch_else, at_set}

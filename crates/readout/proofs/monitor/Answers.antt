@@ -28,6 +28,7 @@ answered c =
     told_measured x.state.now x.number c.quantity_of-q.result c.if-state-ne-STATE_LEN.false c.if-number-gt13.false
     c.quantity_of-q.ensures.0 c.is_unmeasured.ensures c.if-is_unmeasured.false c.stored_at.ensures.0
     c.value_at-x.ensures
+
 -- TODO helper over a place
 
 pub returns-in-0 : goal.returns-in-0

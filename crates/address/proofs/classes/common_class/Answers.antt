@@ -1,7 +1,7 @@
 -- `address::classes::common_class` meets its contract: the class is the definition's, by the port, then by whether the place is shared, then by
 -- whether it is that of 86 or of 93; a register of one byte is one number.
-use Rattle.std.proofs.Common.{◌≡◌, ℕ, true, false, sym, ◌∙◌, ne_eqb}
-use Rattle.laws.specs.Tests.{if◌then◌else◌, covers}
+use Rattle.std.proofs.Common.{◌≡◌, ℕ, true, false, sym, ◌∙◌, ne_eqb, if◌then◌else◌}
+use Rattle.laws.specs.Tests.{covers}
 use Rattle.laws.proofs.Tests.{covers_one}
 use Rattle.model.specs.Ports.{caller}
 use Rattle.model.specs.Map.{common}

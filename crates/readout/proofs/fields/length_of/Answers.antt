@@ -19,4 +19,4 @@ overflow_cast-result c =
 pub returns : goal.returns
 returns c =
     let other : c.args.field ≢ 2 = c.if-field-eq-OUI.false in
-    rw (ne_eqb _ _ other) (c.trimmed.ensures ∙ rw (c.start_of_lem.ensures {-TODO step start_of_lem at After-start_of-}, c.many_of-many.ensures))
+    rw (ne_eqb _ _ other) (c.trimmed.ensures ∙ rw (c.start_of_lem.ensures, {-TODO step start_of_lem at After-start_of-} c.many_of-many.ensures))
