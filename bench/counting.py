@@ -2,7 +2,7 @@
 measure.py, eight.py, logs.py and store.py.
 
 A run of some repeats less a run of fewer is the calls between and what the program does around each; the program with the idle
-engine takes the latter and one instruction a call. EMULATOR is set by measure.py; it is empty on x86-64.
+engine takes the latter and one instruction a call.
 """
 import re
 import subprocess
@@ -12,7 +12,6 @@ from fractions import Fraction
 
 WORK = "build/bench"
 ENGINES = {"library": "library", "direct-O2": "C -O2", "direct-O3": "C -O3"}
-EMULATOR = ""
 PRINTED = []  # the tables, each the list of its lines
 
 
@@ -31,35 +30,12 @@ def run(*words):
 
 def program(engine, *words):
     """What a program prints."""
-    return run(*([EMULATOR] if EMULATOR else []), f"{WORK}/{engine}", *words).stdout
-
-
-def emulated(words, status=0, **how):
-    """The instructions of a run under the emulator that ends with this status. The emulator says how it translates a stretch of
-    code, with a mark for each instruction, right before the stretch first runs; and it says each time that a stretch runs, by
-    where the translation lies."""
-    log = ("-d", "exec,nochain,op", "-D", "/dev/stderr")  # which, named as a file, is not written to line by line
-    emulator = subprocess.Popen([EMULATOR, *log, *words], **how | {"stderr": subprocess.PIPE})
-    marked, total, lengths = 0, 0, {}
-    with emulator.stderr:
-        for line in emulator.stderr:
-            if line.startswith(b"Trace "):
-                place = line.split(b" ", 3)[2]
-                if marked:
-                    lengths[place], marked = marked, 0
-                total += lengths[place]
-            elif line.startswith(b" ---- "):
-                marked += 1
-    if emulator.wait() != status:
-        stop(2, f"{' '.join(words)}: status {emulator.returncode}")
-    return total
+    return run(f"{WORK}/{engine}", *words).stdout
 
 
 def instructions(engine, case, repeats):
     """Of a whole run of a program."""
     words = [f"{WORK}/{engine}", "make", case[0], repeats, *case[1:]]
-    if EMULATOR:
-        return emulated(words)
     said = run("valgrind", "--tool=callgrind", "--callgrind-out-file=/dev/null", *words).stderr
     return int(re.search(r"Collected : (\d+)", said).group(1))
 

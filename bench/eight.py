@@ -23,17 +23,16 @@ def check(cases):
 
 
 def tables(cases):
-    cost = costs(ENGINES, cases)
-    time = {} if counting.EMULATOR else times(cases, ENGINES)
+    cost, time = costs(ENGINES, cases), times(cases, ENGINES)
     others = [title.replace("C -", "-").replace(" C", "") for title in list(ENGINES.values())[1:]]
     head = ["Eight-channel call", *ENGINES.values(), *(f"to {other}" for other in others)]
     rows = []
     for case in cases:
         each = [cost[engine, case] for engine in ENGINES]
         row = [case[0], *map(shown, each), *(f"{float(each[0] / other):.2f}" for other in each[1:])]
-        rows.append(row + ([f"{time[engine, case]:.1f}" for engine in ENGINES] if time else []))
+        rows.append(row + [f"{time[engine, case]:.1f}" for engine in ENGINES])
     print()
-    table(head + ([f"{what} ns" for what in ("library", *others)] if time else []), rows)
+    table(head + [f"{what} ns" for what in ("library", *others)], rows)
     marks(cost.values())
     reached = {start: {cost["library", case] for case in cases if case[0].startswith(start)} for start in LIMITS}
     print()

@@ -2,7 +2,6 @@
 import re
 from fractions import Fraction
 
-import counting
 from counting import ENGINES, costs, marks, program, shown, stop, table, times
 
 USED = FEW, HUNDRED, MANY = "1", "100", "10000"  # used blocks; with the most of them only the library is counted
@@ -55,8 +54,7 @@ def tables(names):
     print()
     table(["Search, used blocks", *USED, "each", "each above 100", *heads], [row(name, *USED) for name in searches])
     marks([*cost.values(), *means])
-    if not counting.EMULATOR:
-        timed([name for name in calls + searches if ": refused" not in name])
+    timed([name for name in calls + searches if ": refused" not in name])
     return {what: [each_block(cost, "library", name, FEW, HUNDRED) for name in names if name.startswith(starts)]
             for what, starts in HELD.items()}
 

@@ -1,9 +1,8 @@
 """measure.py: counts and times the calls of the programs that bench/run has built, and prints the tables.
 
-  python3 -B bench/measure.py --table | --check | --limits | --growth | --store | --store-eight EMULATOR TOOLCHAIN COMPILER COUNTER
+  python3 -B bench/measure.py --table | --check | --limits | --growth | --store | --store-eight TOOLCHAIN COMPILER COUNTER
 
-EMULATOR is empty on x86-64; TOOLCHAIN is what the library was compiled by, COMPILER what plain C was, COUNTER what counts. Exit
-status as bench/run says.
+TOOLCHAIN is what the library was compiled by, COMPILER what plain C was, COUNTER what counts. Exit status as bench/run says.
 """
 import re
 import signal
@@ -17,18 +16,17 @@ from counting import ENGINES, agree, costs, is_eight, is_log, marks, program, sh
 
 LIMITS = {"reset": 500, "sample": 1500, "read 128": 1300, "write 1": 350}  # by how a case's name begins; logs and eight have more
 SECTION = "The table"  # of the stored text, that says what its tables are by, but for eight.SECTION's
-MODE, counting.EMULATOR, TOOLCHAIN, COMPILER, COUNTER = sys.argv[1:]
+MODE, TOOLCHAIN, COMPILER, COUNTER = sys.argv[1:]
 
 
 def the_table(cases):
-    cost = costs(ENGINES, cases)
-    time = {} if counting.EMULATOR else times(cases)
-    head = ["Call", *ENGINES.values(), "to -O2", "to -O3", *(["library ns", "-O2 ns", "-O3 ns"] if time else [])]
+    cost, time = costs(ENGINES, cases), times(cases)
+    head = ["Call", *ENGINES.values(), "to -O2", "to -O3", "library ns", "-O2 ns", "-O3 ns"]
     rows = []
     for case in cases:
         each = [cost[engine, case] for engine in ENGINES]
         row = [case[0], *map(shown, each), *(f"{float(each[0] / other):.2f}" for other in each[1:])]
-        rows.append(row + ([f"{time[engine, case]:.1f}" for engine in ENGINES] if time else []))
+        rows.append(row + [f"{time[engine, case]:.1f}" for engine in ENGINES])
     table(head, rows)
     marks(cost.values())
     return {start: [cost["library", case] for case in cases if case[0].startswith(start)] for start in LIMITS}
@@ -88,8 +86,6 @@ names_of_logs, cases_of_eight = [case[0] for case in every if is_log(case)], [ca
 cases = [case for case in every if not is_log(case) and not is_eight(case)]
 if MODE == "--limits":
     limits(cases, names_of_logs, cases_of_eight)
-if MODE.startswith("--store") and counting.EMULATOR:
-    stop(2, f"the tables of {store.STORED} have times, which an emulator has not")
 print(f"-- the library by {TOOLCHAIN}\n-- plain C by {COMPILER}\n-- counted by {COUNTER}", flush=True)
 if MODE not in ("--growth", "--store-eight"):
     agree(cases + logs.cases(names_of_logs), ENGINES)

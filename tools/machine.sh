@@ -2,16 +2,14 @@
 #
 #   need COMMAND PACKAGE ..   where COMMAND, or a file of that path, is missing: Debian's PACKAGEs are installed, if this is root
 #                             on a system with apt-get
-#   compile WORDS ..          the C compiler for x86-64, which is what the library is compiled for
-#   compile_cpp WORDS ..      the C++ compiler for x86-64
+#   compile WORDS ..          the C compiler
+#   compile_cpp WORDS ..      the C++ compiler
 #   objects FOLDER SOURCE ..  compiles each C source, without a warning, into an object in FOLDER, and prints nothing; an object that
 #                             is newer than its source and every header beside a source or in build/ stays
-#   copy_object WORDS ..      objcopy for x86-64
-#   run PROGRAM WORDS ..      runs an x86-64 program: as it is, or on Arm under the toolchain's emulator
-#   emulator                  prints the path of that emulator; where `run` does not emulate, nothing
-#   EMULATED                  1 where `run` emulates, else empty
+#   copy_object WORDS ..      objcopy
+#   run PROGRAM WORDS ..      runs what was compiled
 #
-# `cc` and its packages are this machine's own compiler, for what is loaded into this machine's own programs.
+# The library is compiled for x86-64, as today's Rattle is: on another processor all of this ends with one line.
 
 stop() {
     echo "${0##*/}: $1" >&2
@@ -38,37 +36,11 @@ need() {
     has "$command" || stop "$command is missing, with $* installed"
 }
 
-case $(uname -m) in
-x86_64)
-    EMULATED=
-    compile() { need gcc gcc libc6-dev && gcc "$@"; }
-    compile_cpp() { need g++ g++ && g++ "$@"; }
-    copy_object() { need objcopy binutils && objcopy "$@"; }
-    emulator() { :; }
-    run() { "$@"; }
-    ;;
-aarch64)
-    EMULATED=1
-    compile() { need x86_64-linux-gnu-gcc gcc-x86-64-linux-gnu libc6-dev-amd64-cross && x86_64-linux-gnu-gcc -static "$@"; }
-    copy_object() { need x86_64-linux-gnu-objcopy binutils-x86-64-linux-gnu && x86_64-linux-gnu-objcopy "$@"; }
-    # g++ would add -lm, and the libm.a of Debian 12's libc6-dev-amd64-cross names files that are elsewhere.
-    compile_cpp() {
-        need x86_64-linux-gnu-g++ g++-x86-64-linux-gnu libc6-dev-amd64-cross && x86_64-linux-gnu-gcc -static "$@" -lstdc++
-    }
-    emulator() {
-        command -v rt >/dev/null || stop "rt, the Rattle toolchain's command, is not on the PATH"
-        echo "$(dirname -- "$(dirname -- "$(rt doc)")")/on/aarch64/toolchain/bin/qemu-x86_64"
-    }
-    run() {
-        local emulator
-        emulator=$(emulator) || exit
-        "$emulator" "$@"
-    }
-    ;;
-*)
-    stop "the library is for x86-64; on this machine, $(uname -m), it is neither native nor emulated"
-    ;;
-esac
+[ "$(uname -m)" = x86_64 ] || stop "today's Rattle is for x86-64, and so is the library; this machine is $(uname -m)"
+compile() { need gcc gcc libc6-dev && gcc "$@"; }
+compile_cpp() { need g++ g++ && g++ "$@"; }
+copy_object() { need objcopy binutils && objcopy "$@"; }
+run() { "$@"; }
 
 objects() {
     local folder=$1 source object header

@@ -8,7 +8,7 @@
 
 const char *const place_words[PLACES] = { "end", "start", "odd" };
 
-/* As much is unreadable as the largest page of a machine that emulates this one: its smallest protected part. */
+/* As much is unreadable as the largest page of any machine: what is protected is whole pages. */
 enum { UNREADABLE = 1 << 16, CANARY = 64 };
 
 static struct {

@@ -1,23 +1,16 @@
-"""counted.py: how many instructions a run of the tool takes: by valgrind, or where the tool is emulated by the emulator. Their
-number is that of the work, whatever else the machine does."""
+"""counted.py: how many instructions a run of the tool takes, by valgrind. Their number is that of the work, whatever else the
+machine does."""
 import re
 import subprocess
 
-import counting
-from station import EMULATED, PATIENCE, PROGRAM, settled
-from transcript import ROOT
+from station import PATIENCE, PROGRAM, settled
 
 COUNTED = ["valgrind", "--tool=callgrind", "--callgrind-out-file=/dev/null"]
-if EMULATED:
-    counting.EMULATOR = subprocess.run(["bash", "-c", ". tools/machine.sh; emulator"], cwd=ROOT, capture_output=True, text=True,
-                                       check=True).stdout.strip()
 
 
 def instructions(folder, *words, status=0, **how):
     """Of a run in the folder that ends with this status."""
     how, words = settled(folder, **{"stdout": subprocess.DEVNULL, **how}), [str(PROGRAM), *map(str, words)]
-    if EMULATED:
-        return counting.emulated(words, status, **how)
     done = subprocess.run(COUNTED + words, timeout=PATIENCE, check=False, **how)
     found = re.search(rb"Collected : (\d+)", done.stderr)
     if done.returncode != status or not found:

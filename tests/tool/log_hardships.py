@@ -8,7 +8,7 @@ import logs
 from disk import another, limited
 from log_kills import begun, look, rows_from, state_after
 from recorded import build, recorded
-from station import BY_RUN, PATIENCE, PROGRAM, settled, zikhrodan
+from station import PATIENCE, PROGRAM, settled, zikhrodan
 
 OLD, NEW = rows_from(0, 20), rows_from(20, 15)
 ADD, POWER_UP = ("log", "add", "kept.log", "new.rows"), ("log", "power-up", "kept.log")
@@ -17,7 +17,7 @@ SAMPLE = ("sample", "--log", "kept.log", "module.state", "new.rows")
 # last block in its place.
 SYNCED, MIRRORED, LAST_CALL = 4, 5, 6
 FIRST_KEPT = 10  # of those of demo's log, after a write and two syncs for each of three files
-FOUR_FILES = 'set -euo pipefail; . "$0"; way=${EMULATED:+$(emulator)}; ulimit -n 4; exec ${way:+"$way"} "$@"'
+FOUR_FILES = 'set -e; ulimit -n 4; exec "$@"'
 SHOWS = ([("log", "show", "kept.log", *words) for words in ((), ("--from", "0"), ("--json",), ("--csv",))] +
          [("died", "kept.log", *words) for words in ((), ("rx1",), ("--json",))])
 
@@ -163,7 +163,7 @@ def few(folder, checks, program=PROGRAM):
     with checks.group("a tool that can have but one file open beside the standard ones can open a log") as group:
         kept(folder)
         try:
-            seen = subprocess.run(["bash", "-c", FOUR_FILES, BY_RUN[-1], program, *POWER_UP], timeout=PATIENCE, check=False,
+            seen = subprocess.run(["bash", "-c", FOUR_FILES, "few", program, *POWER_UP], timeout=PATIENCE, check=False,
                                   **settled(folder))
             group.same("power-up", (0, b"block 3 is opened\nkept.log: 3 of 6 blocks used\n", b""),
                        (seen.returncode, seen.stdout, seen.stderr))

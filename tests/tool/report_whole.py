@@ -7,7 +7,7 @@ from counted import growths, instructions, is_even
 from days import day, kept, row, worst
 from paper import with_codes
 from report import ELEMENTS, HOURS, compare, made
-from station import EMULATED, zikhrodan
+from station import zikhrodan
 from told import FACTORY, Told
 
 MOST, MANY = 2 * 1000 * 1000, 100000
@@ -56,7 +56,7 @@ def large(folder, checks):
             group.same(name, 0, made(folder, path, "--period", "0.000000001", *HOURS)[0])
             group.same(f"{name}: its size", True, (folder / "page.html").stat().st_size < MOST)
     with checks.group(f"a page of more samples takes at most {EACH} instructions for each, and as many of a longer log") as group:
-        for name, dark in list(WORST.items())[:1 if EMULATED else None]:
+        for name, dark in WORST.items():
             growth = growths(lambda size, dark=dark: instructions(
                 folder, "report", worst(folder / "worst.log", size, dark).name, "-o", "page.html"), SIZES)
             group.same(f"{name}: {growth}", (True, True), (max(growth) <= EACH, is_even(growth)))

@@ -14,16 +14,13 @@ from paper import Paper
 from paper_eight import Eight
 from transcript import PATIENCE, ROOT, environment
 
-EMULATED = bool(subprocess.run(["bash", "-c", '. tools/machine.sh; printf %s "$EMULATED"'], cwd=ROOT, capture_output=True,
-                               check=True).stdout)
-BY_RUN = ["bash", "-c", 'set -euo pipefail; . "$0"; run "$@"', str(ROOT / "tools" / "machine.sh")]
 PROGRAM = ROOT / "build" / "station"
 NOBODY = 65534
 
 
 def command(*words, program=PROGRAM):
     """The tool's command line, without the wrapper, which has built it."""
-    return (BY_RUN if EMULATED else []) + [str(program)] + [str(word) for word in words]
+    return [str(program)] + [str(word) for word in words]
 
 
 def settled(folder, **how):

@@ -1,10 +1,10 @@
 """synced.py: a new state is synced before it takes the old one's name, and its folder after; and what is said where that fails.
 
-The tool is watched from inside, by a library that is loaded before it: not where it is emulated, since it is static there.
+The tool is watched from inside, by a library that is loaded before it.
 """
 import subprocess
 
-from station import EMULATED, KINDS
+from station import KINDS
 from transcript import ROOT, environment
 
 WATCHER = ROOT / "build" / "tool-synced.so"
@@ -22,9 +22,6 @@ def watched(kept, words, fails=""):
 
 
 def run(folder, checks):
-    if EMULATED:
-        print("-- what is synced is not looked at where the tool is emulated")
-        return
     subprocess.run(["cc", "-std=gnu11", "-Wall", "-Wextra", "-Werror", "-shared", "-fPIC", ROOT / "tests" / "tool" / "synced.c",
                     "-ldl", "-o", WATCHER], check=True)
     for kind in KINDS:
