@@ -73,7 +73,7 @@ pub fn identity_refusal(live: &[u8], factory: &[u8], field: u64) -> u8
 
 // The identity field itself, a part of the page it came from; empty where it is refused.
 pub fn identity_view<'a>(live: &'a [u8], factory: &'a [u8], field: u64) -> &'a [u8]
-    ensures { Viewed live factory field result }
+    ensures { Viewed live.entry factory.entry field result }
 {
     let f = identity_place(live, factory, field);
     let start = f.start as usize;

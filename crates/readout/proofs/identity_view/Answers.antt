@@ -22,5 +22,5 @@ returns-then-f-eq2 c =
 
 pub returns : goal.returns
 returns c =
-    let x = p.before.before.before.args {-TODO past start-} in
-    view_refused x.live x.factory c.identity-place.ensures {-TODO step identity-place at After-shared_slice_known2-} c.if1.false {-TODO step if1 at After-struct_known3-} c.if2.false {-TODO step if2 at After-struct_known4-} refl
+    let x = c.args in
+    view_refused x.live x.factory c.identity_place-f.ensures c.if-f-eq1.false c.if-f-eq2.false refl

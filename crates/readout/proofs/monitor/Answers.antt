@@ -1,17 +1,12 @@
 -- `readout::monitor` meets its contract: once it is not refused and measured, the answer goes by the quantity's kind alone, and one
 -- lemma serves the four kinds.
-use Rattle.std.proofs.Common.{◌≡◌, refl, ne_eqb, le-leb}
+use Rattle.std.proofs.Common.{◌≡◌, refl, arith}
 use Rattle.model.specs.Samples.{Kind}
 use Rattle.model.specs.Readout.{measured, quantity}
 use Rattle.model.specs.Outcomes.{given, monitor_told}
 use Rattle.readout.proofs.Quantities.{other_kind, told_nothing, told_measured}
+use Rattle.readout.proofs.monitor.Goals.{After-value_at-x}
 use Rattle.readout.proofs.monitor.Goals as goal
-
-pub returns-then-state-ne-STATE_LEN : goal.returns-then-state-ne-STATE_LEN
-returns-then-state-ne-STATE_LEN c = rw (ne_eqb _ _ c.if-state-ne-STATE_LEN.true)
-
-pub returns-then-number-gt13 : goal.returns-then-number-gt13
-returns-then-number-gt13 c = rw (c.if-state-ne-STATE_LEN.false, le-leb 14 _ c.if-number-gt13.true) refl
 
 pub returns-then-is_unmeasured : goal.returns-then-is_unmeasured
 returns-then-is_unmeasured c =
@@ -20,7 +15,7 @@ returns-then-is_unmeasured c =
     c.quantity_of-q.ensures.0 c.is_unmeasured.ensures c.if-is_unmeasured.true
 
 -- by the kind of the quantity
-answered : (c : goal.After-value_at-x) {k : Kind} →
+answered : (c : After-value_at-x) {k : Kind} →
     let x = c.args in
     (quantity c.quantity_of-q.result).kind ≡ k → given (measured k c.value_at-x.result) ≡ monitor_told x.state.now x.number
 answered c =
@@ -29,19 +24,16 @@ answered c =
     c.quantity_of-q.ensures.0 c.is_unmeasured.ensures c.if-is_unmeasured.false c.stored_at.ensures.0
     c.value_at-x.ensures
 
--- TODO helper over a place
-
 pub returns-in-0 : goal.returns-in-0
-returns-in-0 c = answered c (rw c.in-0.keys1)
+returns-in-0 c = answered (goal.at.returns-in-0 c).After-value_at-x (rw c.in-0.is)
 
 pub returns-in-1 : goal.returns-in-1
-returns-in-1 c = answered c (rw c.in-1.keys2 refl)
+returns-in-1 c = answered (goal.at.returns-in-1 c).After-value_at-x (rw c.in-1.is refl)
 
 pub returns-in-3 : goal.returns-in-3
-returns-in-3 c = answered c (rw c.in-3.keys3)
+returns-in-3 c = answered (goal.at.returns-in-3 c).After-value_at-x (rw c.in-3.is)
 
 pub returns-in_default : goal.returns-in_default
 returns-in_default c =
     let q = c.quantity_of-q in
-    let d = c.in_default.rest in
-    answered c (other_kind q.result q.ensures.1 d.0.0.1 d.0.1 d.1)
+    answered (goal.at.returns-in_default c).After-value_at-x (other_kind q.result q.ensures.1 (omega arith) (omega arith) (omega arith))

@@ -12,4 +12,4 @@ returns-then-page-ne-PAGE_LEN c =
 
 pub returns : goal.returns
 unfolding sound_page
-returns c = rw (eq-eqb _ _ (are-right-requires c c.are_right.lifetimes)) c.are_right.ensures
+returns c = rw (eq-eqb _ _ c.if-page-ne-PAGE_LEN.false) c.are_right.ensures

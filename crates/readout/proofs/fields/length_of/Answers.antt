@@ -14,9 +14,9 @@ trimmed-requires c =
 
 pub overflow_cast-result : goal.overflow_cast-result
 overflow_cast-result c =
-    omega (arith, trimmed_le c.args.page.now c.start_of_lem.result {-TODO step start_of_lem at After-start_of-} c.many_of-many.result)
+    omega (arith, trimmed_le c.args.page.now c.start_of.result c.many_of-many.result)
 
 pub returns : goal.returns
 returns c =
     let other : c.args.field ≢ 2 = c.if-field-eq-OUI.false in
-    rw (ne_eqb _ _ other) (c.trimmed.ensures ∙ rw (c.start_of_lem.ensures, {-TODO step start_of_lem at After-start_of-} c.many_of-many.ensures))
+    rw (ne_eqb _ _ other) (c.trimmed.ensures ∙ rw (c.start_of.ensures, c.many_of-many.ensures))

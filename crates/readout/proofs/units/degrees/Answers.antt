@@ -7,6 +7,6 @@ use Rattle.readout.proofs.units.degrees.Goals as goal
 pub returns : goal.returns
 unfolding of_bits of_int
 returns c =
-    let r = c.Signed-of.result {-TODO step Signed-of at After-signed_of-} in
+    let r = c.signed_of.result in
     let held : to_z w16 (of_z w16 r) ≡ r = search rules in
-    rw (held, c.Signed-of.ensures {-TODO step Signed-of at After-signed_of-}) (refl, temperature_exact c.args.n (search rules))
+    rw (held, c.signed_of.ensures) (refl, temperature_exact c.args.n (search rules))
