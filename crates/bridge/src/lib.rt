@@ -1,6 +1,8 @@
 // The C face: the calls of `module`, `eight_module`, `readout`, `log_calls` and `log_first` under the names of include/zikhrodan.h,
 // over numbers and byte slices. A slice is a pointer and then a length; an answer of several numbers is packed into one.
 // Proved: each answer, and each byte left, is that of the definitions, through the calls' own contracts (specs/Face.antt).
+#![tactic(auto)]
+
 ghost use Rattle.std.specs.Prelude.{◌≡◌, ◌<◌};
 ghost use Rattle.ports.specs.Ports.{reset, sample};
 ghost use Rattle.model.specs.Module.{document01};

@@ -14,7 +14,7 @@ ghost use Rattle.log_first.specs.Meaning.{first_says};
 use log_block::{MARK_AT, ROOM_AT, ROOM_END, SAMPLE_LEN};
 
 // The answer: the position of the first sample with the bit; or that no sample that is looked at has it; or the refusal.
-#[derive(Drop)]
+#[derive(Clone, Copy)]
 pub enum First {
     At(u64),
     Never,

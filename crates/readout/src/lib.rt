@@ -16,7 +16,7 @@ mod units;
 // ---- identity
 
 // Where an identity field lies: its page (1 live, 2 factory), where it starts there, and its length; these three are 0 where it is refused.
-#[derive(Drop)]
+#[derive(Clone, Copy)]
 pub struct Found {
     pub refusal: u8,
     pub page: u8,
@@ -90,7 +90,7 @@ pub fn identity_view<'a>(live: &'a [u8], factory: &'a [u8], field: u64) -> &'a [
 // ---- monitors
 
 // What a monitor answers: a number in its unit, or nothing measured, or a refusal.
-#[derive(Drop)]
+#[derive(Clone, Copy)]
 pub enum Monitored {
     Degrees(f64),
     Volts(f64),
@@ -126,7 +126,7 @@ pub fn monitor(state: &[u8], number: u64) -> Monitored
 // ---- limits
 
 // The limits of a quantity, in its unit.
-#[derive(Drop)]
+#[derive(Clone, Copy)]
 pub struct FourLimits {
     pub high_alarm: f64,
     pub low_alarm: f64,
@@ -135,7 +135,7 @@ pub struct FourLimits {
 }
 
 // What the limits call answers.
-#[derive(Drop)]
+#[derive(Clone, Copy)]
 pub enum Limited {
     Given(FourLimits),
     Refused(u8),
