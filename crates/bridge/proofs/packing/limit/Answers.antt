@@ -4,9 +4,7 @@ use Rattle.bridge.proofs.packing.Nothing.{none_is, no_limit}
 use Rattle.bridge.proofs.packing.limit.Goals as goal
 
 pub returns-in_default : goal.returns-in_default
-returns-in_default c =
-    let a = c.args in
-    rw c.l-1.given.1 (no_limit _ a.which (omega (arith, c.in_default.rest)))
+returns-in_default c = rw c.in-Given.is (no_limit _ c.args.which (omega arith))
 
 pub returns-in-Refused : goal.returns-in-Refused
 returns-in-Refused c = cc none_is
