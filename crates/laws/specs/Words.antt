@@ -1,13 +1,13 @@
 -- All the words that the definitions of the crates above, and the statements that docs/EXAMINER.md names, are written in, and nothing
--- else: those of the toolchain's library, here in one place, and the few of our own that know of no document. Only the library's
--- operators are not here, since each file has to take them from the library itself: + - * / % ^ < ≤ ≡ ≢ ↔ && || ∷ ++ and if then else.
+-- else: those of the toolchain's library, here in one place, and the few of our own that know of no document. Every file takes the
+-- library's operators from the library itself, as rt asks; which it may take stands here.
 -- Assumes nothing.
-pub use Rattle.std.specs.Prelude.{ℕ, zero, suc, ℤ, pos, nat_abs, negsuc, neg_ℤ, Bool, true, false, not, eqb, ltb, leb, length, get_or, take, drop, set, replicate, Float}
+pub use Rattle.std.specs.Prelude.{ℕ, zero, suc, ◌+◌, ◌-◌, ◌*◌, ◌/◌, ◌%◌, ◌^◌, ◌<◌, ◌≤◌, ℤ, pos, nat_abs, negsuc, neg_ℤ, Bool, true, false, not, ◌&&◌, ◌||◌, eqb, ltb, leb, ◌≡◌, ◌↔◌, ◌≢◌, if◌then◌else◌, length, get_or, take, drop, set, replicate, Float}
 pub use Rattle.std.specs.Int.Bits.{bit_or, bit_and, bit_xor}
 pub use Rattle.std.specs.Int.Count.{ones}
 pub use Rattle.std.specs.Int.Signed.{non_neg, lt_z}
 pub use Rattle.std.proofs.Math.Option.{Option, none, some}
-pub use mathlib.Core.List.{List, [], Memᴰ, Nodup, map}
+pub use mathlib.Core.List.{List, [], ◌∷◌, Memᴰ, Nodup, ◌++◌, map}
 pub use Rattle.std.specs.Float.Ieee.{div, of_int}
 pub use Rattle.std.specs.Float.{binary64}
 pub use Rattle.std.specs.Float.Ieee.Exact.{HasValue}

@@ -12,7 +12,7 @@ loop-j-init c = (search rules, refl, search rules)
 pub loop-j-preserved : goal.loop-j-preserved
 loop-j-preserved c =
     let x = c.args in
-    let more = count_more (λ k. at x.state.now (x.base + k)) c.loop-j.j x.f x.m (omega (arith, c.shared_slice_known-1.given (x.base + (x.f + c.loop-j.j)))) in
+    let more = count_more (λ k. at x.state.now (x.base + k)) c.loop-j.j x.f x.m (omega (arith, c.type_inv.state (x.base + (x.f + c.loop-j.j)))) in
     (search rules, omega arith, omega arith)
 
 pub returns : goal.returns

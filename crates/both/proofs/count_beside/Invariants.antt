@@ -6,6 +6,3 @@ use Rattle.both.proofs.count_beside.Given as goal
 
 abbrev pub invariant-loop-j : goal.invariant-loop-j
 invariant-loop-j l = (l.j ≤ l.n) × (l.c ≡ sum (map (count_pair (λ k. at l.state (l.base + k))) (beside l.j l.f l.m))) × (l.c ≤ 8 * l.j)
-
-abbrev pub decreases-loop-j : goal.decreases-loop-j
-decreases-loop-j l = l.n - l.j

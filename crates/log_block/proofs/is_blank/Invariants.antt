@@ -1,9 +1,6 @@
-use Rattle.std.proofs.Common.{◌≡◌, ◌-◌, ◌≤◌, eqb}
+use Rattle.std.proofs.Common.{◌≡◌, ◌≤◌, eqb}
 use Rattle.block.specs.Block.{holds}
 use Rattle.log_block.proofs.is_blank.Given as goal
 
 abbrev pub invariant-loop-i : goal.invariant-loop-i
 invariant-loop-i l = (l.i ≤ l.n) × (eqb l.seen 0 ≡ holds l.from l.i (λ j. 0) l.s)
-
-abbrev pub decreases-loop-i : goal.decreases-loop-i
-decreases-loop-i l = l.n - l.i
