@@ -13,12 +13,12 @@ returns-then-is_misfit c =
 pub search-requires : goal.search-requires
 search-requires c =
     let x = c.args in
-    (fits_blocks x.log.now x.used (sym c.is_misfit.ensures ∙ c.if-is_misfit.false), (let h = c.if-bit-lt24.true in omega arith))
+    (fits_blocks x.log.now x.used (sym c.is_misfit.ensures ∙ c.if-is_misfit.false), omega arith)
 
 pub returns-then-bit-lt24 : goal.returns-then-bit-lt24
 returns-then-bit-lt24 c =
     let x = c.args in
-    c.search.ensures ∙ answered x.log.now x.used x.bit (sym c.is_misfit.ensures ∙ c.if-is_misfit.false) (let h = c.if-bit-lt24.true in omega arith)
+    c.search.ensures ∙ answered x.log.now x.used x.bit (sym c.is_misfit.ensures ∙ c.if-is_misfit.false) (omega arith)
 
 pub is_crowded-requires : goal.is_crowded-requires
 is_crowded-requires c =
@@ -33,4 +33,4 @@ returns-then-is_crowded c =
 pub returns : goal.returns
 returns c =
     let x = c.args in
-    bit_refused x.log.now x.used x.bit (sym c.is_misfit.ensures ∙ c.if-is_misfit.false) (sym c.is_crowded.ensures ∙ c.if-is_crowded.false) (let h = c.if-bit-lt24.false in omega arith)
+    bit_refused x.log.now x.used x.bit (sym c.is_misfit.ensures ∙ c.if-is_misfit.false) (sym c.is_crowded.ensures ∙ c.if-is_crowded.false) (omega arith)
