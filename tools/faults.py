@@ -5,7 +5,7 @@ A file is a run: what the prover is given at once. It has one fault or, with bla
   # accepted: what it would mean if the prover took it
   # differs: CALL: an input on which the call's answer, or what it leaves, differs; a fault of code has this line, one of a
     definition does not. CALL is a C function of the header without its first word, or a function of the crate
-  # false: the declaration that no longer holds with it; of a function's proof FUNCTION/NEED, or MODULE/FUNCTION/NEED
+  # false: the declaration that no longer holds with it; of a function's proof FUNCTION/GOAL, or MODULE/FUNCTION/GOAL
   file: the crate's file       old: one line of it       new: that line edited
 Callers see contracts alone, so faults in different functions of a crate cannot touch each other: a run has at most one fault
 for each function. A fault of a definition is alone in its run.
@@ -64,7 +64,7 @@ def misfit(crate, fault):
         return "it names no input on which its answer differs"
     if fault.differs and not code:
         return "of a definition's fault the statement says what differs"
-    return None if not code or "/" in fault.false else "a fault of code is false at FUNCTION/NEED"
+    return None if not code or "/" in fault.false else "a fault of code is false at FUNCTION/GOAL"
 
 
 def read(path):

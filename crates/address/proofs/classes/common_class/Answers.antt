@@ -1,6 +1,6 @@
 -- `address::classes::common_class` meets its contract: the class is the definition's, by the port, then by whether the place is shared, then by
 -- whether it is that of 86 or of 93; a register of one byte is one number.
-use Rattle.std.proofs.Common.{◌≡◌, ℕ, true, false, sym, ◌∙◌, ne_eqb, if◌then◌else◌}
+use Rattle.std.proofs.Common.{◌≡◌, ◌≢◌, ℕ, true, false, sym, ◌∙◌, ne_eqb, if◌then◌else◌}
 use Rattle.laws.specs.Tests.{covers}
 use Rattle.laws.proofs.Tests.{covers_one}
 use Rattle.model.specs.Ports.{caller}
@@ -10,7 +10,7 @@ use Rattle.model.specs.Writing.{all, low_three, class_of}
 use Rattle.address.proofs.classes.common_class.Goals as goal
 
 pub returns-then-port-ne1 : goal.returns-then-port-ne1
-returns-then-port-ne1 c = rw (ne_eqb _ _ c.if-port-ne1.true)
+returns-then-port-ne1 c = let other : c.args.port ≢ 1 = c.if-port-ne1.true in rw (ne_eqb _ _ other)
 
 pub returns-then-is_of : goal.returns-then-is_of
 returns-then-is_of c =

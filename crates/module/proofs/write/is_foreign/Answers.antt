@@ -1,5 +1,5 @@
 -- `module::write::is_foreign` meets its contract.
-use Rattle.std.proofs.Common.{ne_eqb, rules}
+use Rattle.std.proofs.Common.{◌≡◌, ne_eqb, rules}
 use Rattle.ports.specs.Bytes
 use Rattle.model.specs.Ports.{caller}
 use Rattle.model.specs.Map.{base}
@@ -8,7 +8,7 @@ use Rattle.model.proofs.Sound.{sound_page_lem}
 use Rattle.module.proofs.write.is_foreign.Goals as goal
 
 pub returns-then-port-eq1 : goal.returns-then-port-eq1
-returns-then-port-eq1 c = rw c.if-port-eq1.true
+returns-then-port-eq1 c = let operator : c.args.port ≡ 1 = c.if-port-eq1.true in rw operator
 
 pub are_mine-requires : goal.are_mine-requires
 are_mine-requires c =
