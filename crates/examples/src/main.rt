@@ -5,7 +5,7 @@
 // Proved: it is safe and ends. What the calls answer is their own contracts'.
 #![tactic(auto)]
 
-mod eight;
+mod eight_channels;
 mod identity;
 mod log;
 mod print;
@@ -24,5 +24,5 @@ fn main(rt: HostRuntime) -> io::Result<()> {
     steps::start_up(&rt, &image)?;
     identity::fields(&rt, &image[128..256])?;
     log::story(&rt)?;
-    eight::story(&rt)
+    eight_channels::story(&rt)
 }
