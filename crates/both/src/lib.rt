@@ -15,14 +15,14 @@ ghost use Rattle.both.specs.Beside.{beside};
 // ---- answers
 
 // What a read or a write answers: its refusal or 0, and the calling port's count after it.
-#[derive(Drop)]
+#[derive(Clone, Copy)]
 pub struct Answer {
     pub refusal: u8,
     pub count: u8,
 }
 
 // What a reset or a sample answers: its refusal or 0, and both ports' counts after it.
-#[derive(Drop)]
+#[derive(Clone, Copy)]
 pub struct Answers {
     pub refusal: u8,
     pub operator: u8,

@@ -56,7 +56,7 @@ fn is_blank(s: &[u8], from: usize, n: usize) -> bool
 // ---- bytes 501 to 511
 
 // The OR of each of the three status bytes over some samples.
-#[derive(Drop)]
+#[derive(Clone, Copy)]
 struct Status {
     first: u8,
     second: u8,

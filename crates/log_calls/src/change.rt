@@ -1,6 +1,6 @@
 // The calls that change a log of samples: a sample added, a power-up.
 // Proved: for every memory, used number and sample, the refusal, the used number after it and the bytes left are those of document
-// 02's Ask 1 and Ask 9 (block/specs, log/specs).
+// 02's Ask 1 and Ask 9 (block/specs, log_model/specs).
 ghost use Rattle.std.specs.Prelude.{◌≡◌, ◌+◌, ◌*◌, ◌≤◌, ◌<◌, length};
 ghost use Rattle.block.specs.Block.{block_size, sample_size, count, most_samples, grown};
 ghost use Rattle.log_model.specs.Log.{block, last_number, needs_new, put, none_left, new_block};
@@ -9,7 +9,7 @@ ghost use Rattle.log_model.specs.Outcomes.{add_refusal, power_up_refusal, Added,
 use log_block::{BLOCK_LEN, SAMPLE_LEN};
 
 // The answer of an add or a power-up: the refusal, and the used number after it, 0 where it is refused.
-#[derive(Drop)]
+#[derive(Clone, Copy)]
 pub struct Kept {
     pub refusal: u8,
     pub used: u64,

@@ -1,6 +1,6 @@
 // The sample at a position of a log.
 // Proved: for every memory, used number and position, the refusal, where the sample lies and its bytes are those of document 02's
-// Ask 1 (log/specs).
+// Ask 1 (log_model/specs).
 ghost use Rattle.std.specs.Prelude.{◌≡◌, true, ◌*◌, ◌≤◌, ◌<◌, leb, length, if◌then◌else◌};
 ghost use Rattle.block.specs.Block.{block_size};
 ghost use Rattle.log_model.specs.Log.{sound, total, place_of};
@@ -9,7 +9,7 @@ ghost use Rattle.log_model.specs.Outcomes.{Placed, Shown};
 use log_block::{BLOCK_LEN, ROOM_AT, SAMPLE_LEN};
 
 // Where a sample lies: the refusal, and where it begins in the log, 0 where it is refused.
-#[derive(Drop)]
+#[derive(Clone, Copy)]
 pub struct Found {
     pub refusal: u8,
     pub start: u64,

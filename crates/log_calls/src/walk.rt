@@ -1,5 +1,5 @@
 // The walk over the used blocks of a log: whether each is sound, and their numbers rise by one.
-// Proved: refusal 15 of an add, a power-up and a reading is given exactly when document 02 says so (Ask 1, Ask 9; log/specs).
+// Proved: refusal 15 of an add, a power-up and a reading is given exactly when document 02 says so (Ask 1, Ask 9; log_model/specs).
 ghost use Rattle.std.specs.Prelude.{◌≡◌, true, false, ◌+◌, ◌*◌, ◌≤◌, length};
 ghost use Rattle.block.specs.Block.{block_size};
 ghost use Rattle.log_model.specs.Log.{block, sound, misfit, unsound};

@@ -43,7 +43,7 @@ fn are_mine(page: u8, run: HostRun) -> bool
 // Whether a recorder's write touches a byte not its own.
 fn is_foreign(state: &[u8], port: u64, run: HostRun) -> bool
     requires state_len { (length state.now ≡ state_size) × (run.first.0 + run.many ≤ 256) }
-    requires port_value { sound (memory_of state.now) (record_of state.now (base (caller port))) ≡ true }
+    requires record_sound { sound (memory_of state.now) (record_of state.now (base (caller port))) ≡ true }
     ensures { result ≡ foreign (state_of state.now) port run.first.0 run.many }
 {
     if port == 1 {
@@ -56,7 +56,7 @@ fn is_foreign(state: &[u8], port: u64, run: HostRun) -> bool
 // The refusals 4, 5 and 7 of a write of `n` bytes, or 0.
 fn run_refusal(state: &[u8], port: u64, address: u64, n: usize) -> u8
     requires state_len { length state.now ≡ state_size }
-    requires port_value { sound (memory_of state.now) (record_of state.now (base (caller port))) ≡ true }
+    requires record_sound { sound (memory_of state.now) (record_of state.now (base (caller port))) ≡ true }
     ensures { result ≡ first_of (write_rows (state_of state.now) port address n) }
 {
     let first = both::write_refusal(address::HOSTS, address, n);

@@ -41,7 +41,7 @@ pub fn join(dst: &mut [u8], to: usize, src: &[u8], n: usize)
 // ---- two runs of numbers, as of addresses, and what they have in common
 
 // What of the `n` numbers from `a` on another run has: how many come before it, and how many it is.
-#[derive(Drop)]
+#[derive(Clone, Copy)]
 pub struct Part {
     pub skip: usize,
     pub many: usize,

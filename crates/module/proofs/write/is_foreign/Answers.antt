@@ -12,7 +12,7 @@ returns-then-port-eq1 c = let operator : c.args.port ≡ 1 = c.if-port-eq1.true 
 
 pub are_mine-requires : goal.are_mine-requires
 are_mine-requires c =
-    (rw (c.page_of-page.ensures, c.record_of.ensures.0) (sound_page_lem (memory_of c.args.state.now) (record_of c.args.state.now (base (caller c.args.port))) c.requires.port_value), search rules)
+    (rw (c.page_of-page.ensures, c.record_of.ensures.0) (sound_page_lem (memory_of c.args.state.now) (record_of c.args.state.now (base (caller c.args.port))) c.requires.record_sound), search rules)
 
 pub returns : goal.returns
 unfolding Bytes.state_of

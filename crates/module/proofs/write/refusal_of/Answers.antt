@@ -18,7 +18,7 @@ returns-then-first-ne0 c =
 pub run_refusal-requires : goal.run_refusal-requires
 run_refusal-requires c =
     let t = port_taken document01 c.args.state.now c.args.port (sym c.port_refusal-first.ensures ∙ c.if-first-ne0.false) in
-    record { state_len = t.0; port_value = t.1 }
+    record { state_len = t.0; record_sound = t.1 }
 
 pub returns : goal.returns
 unfolding Bytes.refusal_of Bytes.rows_of Modules.rows

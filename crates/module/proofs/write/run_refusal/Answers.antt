@@ -19,7 +19,7 @@ overflow_cast-address c =
 pub is_foreign-requires : goal.is_foreign-requires
 is_foreign-requires c =
     let h = write_run 256 c.args.address c.args.n (sym c.write_refusal-first.ensures ∙ c.if-first-ne0.false) in
-    record { state_len = (c.requires.state_len, rw c.host.ensures h.2); port_value = c.requires.port_value }
+    record { state_len = (c.requires.state_len, rw c.host.ensures h.2); record_sound = c.requires.record_sound }
 
 pub returns-then-is_foreign : goal.returns-then-is_foreign
 returns-then-is_foreign c =
