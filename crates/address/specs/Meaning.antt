@@ -4,7 +4,7 @@ use Rattle.std.specs.Prelude.{◌-◌, if◌then◌else◌}
 use Rattle.laws.specs.Words.{ℕ, suc, ltb}
 use Rattle.model.specs.Map.{Seat, flag, mine, common, status, blank, page_size, paged}
 use Rattle.model.specs.Writing as writing
-use Rattle.address.specs.declared.Register.{Register}
+use Rattle.address.specs.declared.registers.Register.{Register}
 use Rattle.address.specs.declared.Slot.{Slot}
 use Rattle.address.specs.declared.Slot.TheVariants.{Flag, Mine, Common, Status, Blank}
 use Rattle.address.specs.declared.classes.Class.{Class}
@@ -16,10 +16,10 @@ stored_at g a = if ltb a page_size then a else paged g a
 
 -- of a register, where the memory holds its first byte, and how many it has
 abbrev pub held_at : Register → ℕ
-held_at r = stored_at r.0 r.1
+held_at r = stored_at r.page r.first
 
 abbrev pub length_of : Register → ℕ
-length_of r = suc r.2 - r.1
+length_of r = suc r.last - r.first
 
 abbrev pub seat_of : Slot → Seat
 seat_of (Flag k) = flag k

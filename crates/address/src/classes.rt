@@ -10,7 +10,7 @@ ghost use Rattle.address.specs.Meaning.{held_at, length_of, means};
 use super::{Place, Register, registers};
 
 // The bits of a byte that a write reaches.
-#[derive(Clone, Copy)]
+#[derive(Clone, Copy, Debug, PartialEq, Eq)]
 pub enum Class {
     Nothing,
     All,
@@ -24,29 +24,24 @@ pub enum Class {
 pub fn own_class(k: usize) -> Class
     ensures { means result ≡ own_class k }
 {
-    if (k == super::TEMPERATURE_MASK_IN) | (k == super::SUPPLY_MASK_IN) {
-        return Class::HighFour;
+    match k {
+        super::TEMPERATURE_MASK_IN | super::SUPPLY_MASK_IN => Class::HighFour,
+        super::PAGE_IN => Class::Page,
+        super::LOW_MASKS_IN..super::PAGE_IN => Class::All,
+        _ => Class::Nothing,
     }
-    if k == super::PAGE_IN {
-        return Class::Page;
-    }
-    if (super::LOW_MASKS_IN <= k) & (k < super::PAGE_IN) {
-        return Class::All;
-    }
-    Class::Nothing
 }
 
 // Whether a place of the memory is a register's.
 fn is_of(r: Register, p: Place) -> bool
-    requires { (r.0 < 4) × (r.1 ≤ r.2) }
     ensures { result ≡ covers (held_at r) (length_of r) p.0 }
 {
-    let first = super::place_of(r).0;
-    let end = first + super::length_of(r);
-    (first <= p.0) & (p.0 < end)
+    let run = r.places();
+    (run.first.0..run.first.0 + run.many).contains(&p.0)
 }
 
 // Whether it is on the shared list.
+#[tactic(auto, using(laws::proofs::Tests::covers_one), unfolding(model::specs::Reading::shared))]
 fn is_shared(p: Place) -> bool
     ensures { result ≡ shared p.0 }
 {
@@ -57,21 +52,15 @@ fn is_shared(p: Place) -> bool
                     | (is_of(registers::PAGE_02, p) | is_of(registers::CHANNEL_CONTROLS, p)))))
 }
 
-// Of a place of the memory, for a port.
+// Of a place of the memory, for a port: any number, as it always was, so not a `Port`.
+#[tactic(auto, using(laws::proofs::Tests::covers_one), unfolding(model::specs::Reading::shared))]
 pub fn common_class(port: u64, p: Place) -> Class
     ensures { means result ≡ class_of (caller port) (common p.0) }
 {
-    if port != 1 {
-        return Class::Nothing;
+    match port {
+        1 if is_of(registers::TX_DISABLE, p) => Class::LowFour,
+        1 if is_of(registers::POWER, p) => Class::LowThree,
+        1 if is_shared(p) => Class::All,
+        _ => Class::Nothing,
     }
-    if is_shared(p) {
-        if is_of(registers::TX_DISABLE, p) {
-            return Class::LowFour;
-        }
-        if is_of(registers::POWER, p) {
-            return Class::LowThree;
-        }
-        return Class::All;
-    }
-    Class::Nothing
 }

@@ -1,113 +1,106 @@
 // A register: how many addresses it has and which, where the memory holds them, what stands in the first of them.
-ghost use Rattle.std.specs.Prelude.{◌≡◌, ◌<◌, ◌≤◌, ◌+◌, ◌-◌, eqb, length};
+ghost use Rattle.std.specs.Prelude.{◌≡◌, ◌<◌, ◌≤◌, ◌+◌, ◌-◌, eqb, true, false, MatchOption};
 ghost use Rattle.laws.specs.Tests.{covers};
-ghost use Rattle.model.specs.Map.{memory_size, state_size, page_size};
+ghost use Rattle.model.specs.Map.{memory_size, page_size};
 ghost use Rattle.model.specs.Bytes.{memory_of};
 ghost use Rattle.address.specs.Meaning.{held_at, length_of};
 
-use super::{HostAddress, HostRun, Place, PlaceRun, Register};
+use super::{HostAddress, HostRun, Page, Place, PlaceRun, Register, State};
 
-// ---- its addresses
+impl Register {
+    // ---- its addresses
 
-// How many addresses a register has.
-pub fn length_of(r: Register) -> usize
-    requires { r.1 ≤ r.2 }
-    ensures { result ≡ length_of r }
-{
-    (r.2 - r.1) as usize + 1
-}
+    // How many addresses it has.
+    pub fn many(self) -> usize
+        ensures { result ≡ length_of self }
+    {
+        usize::from(self.last - self.first) + 1
+    }
 
-// Its addresses.
-pub fn hosts_of(r: Register) -> HostRun
-    requires { r.1 ≤ r.2 }
-    ensures { (result.first.0 ≡ r.1) × (result.many ≡ length_of r) }
-{
-    HostRun {
-        first: HostAddress(r.1),
-        many: length_of(r),
+    // Its addresses.
+    pub fn hosts(self) -> HostRun
+        ensures { (result.first.0 ≡ self.first) × (result.many ≡ length_of self) }
+    {
+        super::run_from(self.first, self.many())
+    }
+
+    // Whether `page` is its page.
+    pub fn is_on(self, page: Page) -> bool
+        ensures { result ≡ eqb page.number self.page }
+    {
+        page.number == self.page
+    }
+
+    // Whether an address is one of its addresses.
+    pub fn has(self, a: HostAddress) -> bool
+        ensures { result ≡ covers self.first (length_of self) a.0 }
+    {
+        (self.first..=self.last).contains(&u8::from(a))
+    }
+
+    // How many of them come before an address, if it is one of them.
+    pub fn step_to(self, a: HostAddress) -> Option<usize>
+        ensures { MatchOption result (covers self.first (length_of self) a.0 ≡ false) (λ k. (covers self.first (length_of self) a.0 ≡ true) × (k ≡ a.0 - self.first)) }
+    {
+        if self.has(a) {
+            return Some(usize::from(u8::from(a) - self.first));
+        }
+        None
+    }
+
+    // ---- its places
+
+    // Where the memory holds its first byte.
+    pub fn place(self) -> Place
+        ensures { (result.0 ≡ held_at self) × (result.0 < memory_size) }
+    {
+        super::stored_at(HostAddress::from(self.first), Page { number: self.page })
+    }
+
+    // Where it holds all of them.
+    pub fn places(self) -> PlaceRun
+        ensures { (result.first.0 ≡ held_at self) × (result.many ≡ length_of self) × (held_at self + length_of self ≤ memory_size) }
+    {
+        PlaceRun {
+            first: self.place(),
+            many: self.many(),
+        }
+    }
+
+    // All of the memory before it.
+    pub fn memory_before(self) -> PlaceRun
+        ensures { (result.first.0 ≡ 0) × (result.many ≡ held_at self) }
+    {
+        PlaceRun {
+            first: Place(0),
+            many: self.place().0,
+        }
+    }
+
+    // All of the memory behind it.
+    pub fn memory_behind(self) -> PlaceRun
+        ensures { (result.first.0 ≡ held_at self + length_of self) × (result.many ≡ memory_size - (held_at self + length_of self)) }
+    {
+        let run = self.places();
+        let end = run.first.0 + run.many;
+        PlaceRun {
+            first: Place(end),
+            many: super::MEMORY_LEN - end,
+        }
+    }
+
+    // Where a page's own 128 bytes have its first byte.
+    pub fn in_page(self) -> usize
+        requires { page_size ≤ self.first }
+        ensures { result ≡ self.first - page_size }
+    {
+        usize::from(self.first) - super::PAGE_LEN
     }
 }
 
-// Whether `page` is its page.
-pub fn is_on(r: Register, page: u8) -> bool
-    ensures { result ≡ eqb page r.0 }
-{
-    page == r.0
-}
-
-// Whether an address is one of its addresses.
-pub fn has(r: Register, a: HostAddress) -> bool
-    requires { r.1 ≤ r.2 }
-    ensures { result ≡ covers r.1 (length_of r) a.0 }
-{
-    (r.1 <= a.0) & (a.0 <= r.2)
-}
-
-// How many of them come before it.
-pub fn steps_to(r: Register, a: HostAddress) -> usize
-    requires { r.1 ≤ a.0 }
-    ensures { result ≡ a.0 - r.1 }
-{
-    (a.0 - r.1) as usize
-}
-
-// ---- its places
-
-// Where the memory holds its first byte.
-pub fn place_of(r: Register) -> Place
-    requires { r.0 < 4 }
-    ensures { (result.0 ≡ held_at r) × (result.0 < memory_size) }
-{
-    super::stored_at(HostAddress(r.1), r.0)
-}
-
-// Where it holds all of them.
-pub fn places_of(r: Register) -> PlaceRun
-    requires { (r.0 < 4) × (r.1 ≤ r.2) }
-    ensures { (result.first.0 ≡ held_at r) × (result.many ≡ length_of r) }
-{
-    PlaceRun {
-        first: place_of(r),
-        many: length_of(r),
-    }
-}
-
-// All of the memory before a register.
-pub fn memory_before(r: Register) -> PlaceRun
-    requires { r.0 < 4 }
-    ensures { (result.first.0 ≡ 0) × (result.many ≡ held_at r) }
-{
-    PlaceRun {
-        first: Place(0),
-        many: place_of(r).0,
-    }
-}
-
-// All of the memory behind it.
-pub fn memory_behind(r: Register) -> PlaceRun
-    requires { (r.0 < 4) × (r.1 ≤ r.2) × (held_at r + length_of r ≤ memory_size) }
-    ensures { (result.first.0 ≡ held_at r + length_of r) × (result.many ≡ memory_size - (held_at r + length_of r)) }
-{
-    let end = place_of(r).0 + length_of(r);
-    PlaceRun {
-        first: Place(end),
-        many: super::MEMORY_LEN - end,
-    }
-}
-
-// Its first byte, as it is stored.
-pub fn stored(state: &[u8], r: Register) -> u8
-    requires { (length state.now ≡ state_size) × (r.0 < 4) }
+// The first byte of a register, as it is stored.
+pub fn stored(state: &State, r: Register) -> u8
     ensures { result ≡ memory_of state.now (held_at r) }
 {
-    let i = place_of(r).0;
-    state[i]
-}
-
-// Where a page's own 128 bytes have the first byte of a register.
-pub fn in_page(r: Register) -> usize
-    requires { page_size ≤ r.1 }
-    ensures { result ≡ r.1 - page_size }
-{
-    r.1 as usize - super::PAGE_LEN
+    state[r.place().0]
 }

@@ -1,6 +1,6 @@
-// Host addresses, places in the state, and the one bridge between them; by runs it is lanes.rt, by registers held.rt. Every register by
-// name is registers.rt, the bits that a port may write classes.rt.
-// Nothing outside this crate can make a place: what it cannot name by a register, or by a port and a byte of its record, it cannot reach.
+// Host addresses (hosts.rt), places in the state, and the one bridge between them; by runs it is lanes.rt, by registers held.rt. Every
+// register by name is registers.rt, the bits that a port may write classes.rt.
+// Nothing outside this crate can make a place: what it cannot name by a register, or by a record and a byte of it, it cannot reach.
 // Proved: each function gives the definition that its contract cites (document 01, "The 688 bytes" and "Writing").
 #![tactic(auto)]
 
@@ -11,17 +11,15 @@ ghost use Rattle.address.specs.Meaning.{stored_at, seat_of};
 
 mod classes;
 mod held;
+mod hosts;
 mod lanes;
 pub mod registers;
 
 pub use classes::{Class, common_class, own_class};
-pub use held::{
-    hosts_of, in_page, is_on, length_of, memory_before, memory_behind, place_of, places_of, stored,
-};
-pub use lanes::{
-    Lane, clear_lane, flag_lane, high_mask_lane, low_mask_lane, lower_lane, page_byte_lane,
-    page_lane, part_of, put_lane,
-};
+pub use held::stored;
+pub use hosts::{HostAddress, HostRun, Page, run_from};
+pub use lanes::{Lane, Own, clear_lane, lower_lane, own_lane, page_lane, put_lane};
+pub use registers::Register;
 
 // ---- sizes
 
@@ -52,6 +50,9 @@ pub const RECORD_LEN: usize = PAGE_IN + 1;
 
 pub const STATE_LEN: usize = MEMORY_LEN + 2 * RECORD_LEN;
 
+// The state.
+pub type State = [u8; STATE_LEN];
+
 // the flags of bytes 6 and 7 and the masks 103 and 104 have bits 7 to 4 alone; byte 8 has none
 pub const TEMPERATURE_FLAGS_IN: usize = FLAGS_IN + 3;
 
@@ -66,74 +67,56 @@ pub const TEMPERATURE_MASK_IN: usize = LOW_MASKS_IN + 3;
 
 pub const SUPPLY_MASK_IN: usize = LOW_MASKS_IN + 4;
 
-// ---- addresses and places, and runs of either
-
-// A host address, 0 to 255.
-#[derive(Clone, Copy)]
-pub struct HostAddress(u8);
+// ---- places
 
 // A place in the state, 0 to STATE_LEN - 1.
-#[derive(Clone, Copy)]
+#[derive(Clone, Copy, Debug, PartialEq, Eq)]
 pub struct Place(usize);
 
-// Host addresses in a row.
-#[derive(Clone, Copy)]
-pub struct HostRun {
-    pub first: HostAddress,
-    pub many: usize,
+// The number of a place, to index the state with.
+impl From<Place> for usize {
+    ghost from_gives = { λ p i. i ≡ p.0 };
+
+    fn from(p: Place) -> usize {
+        p.0
+    }
 }
 
 // Places in a row.
-#[derive(Clone, Copy)]
+#[derive(Clone, Copy, Debug, PartialEq, Eq)]
 pub struct PlaceRun {
     pub first: Place,
     pub many: usize,
-}
-
-// A register: its page, its first address and its last.
-#[derive(Clone, Copy)]
-pub struct Register(u8, u8, u8);
-
-pub fn host(a: u8) -> HostAddress
-    ensures { result.0 ≡ a }
-{
-    HostAddress(a)
-}
-
-// Address `k` of a run, from 0.
-pub fn nth(run: HostRun, k: usize) -> HostAddress
-    requires { (k < run.many) × (run.first.0 + run.many ≤ 256) }
-    ensures { result.0 ≡ run.first.0 + k }
-{
-    HostAddress(run.first.0 + k as u8)
-}
-
-// The number of a place, to index the state with.
-pub fn index(p: Place) -> usize
-    ensures { result ≡ p.0 }
-{
-    p.0
+    ghost inside: { first.0 + many ≤ state_size },
 }
 
 // ---- a port's record
 
-// Where the record of a port begins.
-pub fn record_of(port: u64) -> Place
-    ensures { (result.0 ≡ base (caller port)) × (memory_size ≤ result.0) × (result.0 + record_size ≤ state_size) }
+// Where a record begins.
+#[derive(Clone, Copy, Debug, PartialEq, Eq)]
+pub struct Base {
+    pub place: Place,
+    ghost whole: { place.0 + record_size ≤ state_size },
+}
+
+// Where the record of a port begins. Any number is taken, as it always was, so not a `Port`.
+pub fn record_of(port: u64) -> Base
+    ensures { (result.place.0 ≡ base (caller port)) × (memory_size ≤ result.place.0) }
 {
-    if port == 1 {
+    let place = if port == 1 {
         Place(MEMORY_LEN)
     } else {
         Place(MEMORY_LEN + RECORD_LEN)
-    }
+    };
+    Base { place }
 }
 
 // Byte `k` of the record that begins at `base`.
-pub fn in_record(base: Place, k: usize) -> Place
-    requires { (k < record_size) × (base.0 + record_size ≤ state_size) }
-    ensures { result.0 ≡ base.0 + k }
+pub fn in_record(base: Base, k: usize) -> Place
+    requires { k < record_size }
+    ensures { result.0 ≡ base.place.0 + k }
 {
-    Place(base.0 + k)
+    Place(base.place.0 + k)
 }
 
 // Both records.
@@ -149,20 +132,19 @@ pub fn records() -> PlaceRun
 // ---- from addresses to places
 
 // Where the memory holds the byte of an address, with `page` selected.
-pub fn stored_at(a: HostAddress, page: u8) -> Place
-    requires { page < 4 }
-    ensures { (result.0 ≡ stored_at page a.0) × (result.0 < memory_size) }
+pub fn stored_at(a: HostAddress, page: Page) -> Place
+    ensures { (result.0 ≡ stored_at page.number a.0) × (result.0 < memory_size) }
 {
-    let n = a.0 as usize;
-    if n < PAGE_LEN {
-        return Place(n);
+    let number = usize::from(u8::from(a));
+    if number < PAGE_LEN {
+        return Place(number);
     }
-    Place(n + PAGE_LEN * (page as usize))
+    Place(number + PAGE_LEN * usize::from(page.number))
 }
 
 // Where an address leads: to a byte of the port's record (a flag byte, or a mask or the page), to a place of the memory, to byte 2, to
 // no place.
-#[derive(Clone, Copy)]
+#[derive(Clone, Copy, Debug, PartialEq, Eq)]
 pub enum Slot {
     Flag(usize),
     Mine(usize),
@@ -172,27 +154,29 @@ pub enum Slot {
 }
 
 // The bridge from an address to a place, for a port with `page` selected.
-pub fn translate(a: HostAddress, page: u8) -> Slot
-    requires { page < 4 }
-    ensures { seat_of result ≡ seat page a.0 }
+#[tactic(auto, unfolding(model::specs::Map::seat))]
+pub fn translate(a: HostAddress, page: Page) -> Slot
+    ensures { seat_of result ≡ seat page.number a.0 }
 {
-    if held::has(registers::FLAGS, a) {
-        return Slot::Flag(held::steps_to(registers::FLAGS, a));
+    if let Some(k) = Own::FLAGS.byte_of(a) {
+        return Slot::Flag(k);
     }
-    if held::has(registers::LOW_MASKS, a) {
-        return Slot::Mine(LOW_MASKS_IN + held::steps_to(registers::LOW_MASKS, a));
+    if let Some(k) = Own::LOW_MASKS.byte_of(a) {
+        return Slot::Mine(k);
     }
-    if held::has(registers::SELECT, a) {
-        return Slot::Mine(PAGE_IN);
+    if let Some(k) = Own::SELECT.byte_of(a) {
+        return Slot::Mine(k);
     }
-    if held::has(registers::BLANKS, a) {
+    if registers::BLANKS.has(a) {
         return Slot::Blank;
     }
-    if held::has(registers::STATUS, a) {
+    if registers::STATUS.has(a) {
         return Slot::Status;
     }
-    if is_on(registers::HIGH_MASKS, page) & held::has(registers::HIGH_MASKS, a) {
-        return Slot::Mine(HIGH_MASKS_IN + held::steps_to(registers::HIGH_MASKS, a));
+    if registers::HIGH_MASKS.is_on(page) {
+        if let Some(k) = Own::HIGH_MASKS.byte_of(a) {
+            return Slot::Mine(k);
+        }
     }
     Slot::Common(stored_at(a, page))
 }

@@ -1,12 +1,18 @@
--- The decoded form that the code works on: sixteen bits, signed or not, and three rows of four numbers.
+-- The forms that the code works on: the quantities by name, and three rows of four numbers.
 -- Assumes nothing.
-use Rattle.std.specs.Prelude.{◌+◌, ◌∷◌, if◌then◌else◌}
-use Rattle.laws.specs.Words.{ℕ, Bool, List, [], get_or, ℤ, pos, at}
-use Rattle.model.specs.Samples.{word, signed}
+use Rattle.std.specs.Prelude.{◌+◌, ◌∷◌}
+use Rattle.laws.specs.Words.{ℕ, List, [], get_or, at}
+use Rattle.model.specs.Samples.{word, Quantity}
+use Rattle.model.specs.Readout.{quantity}
+use Rattle.alarms.specs.declared.quantities.Quantity as quantities
+use Rattle.alarms.specs.declared.quantities.Quantity.TheVariants.{Temperature, Supply, RxPower, TxBias, TxPower}
 
--- what sixteen bits stand for, signed or not
-abbrev pub number_as : Bool → ℕ → ℤ
-number_as s n = if s then signed n else pos n
+-- a quantity's number, and the quantity that it is
+abbrev pub quantity_number : quantities.Quantity → ℕ
+quantity_number = elim [ Temperature ↦ 0 | Supply ↦ 1 | RxPower ↦ 2 | TxBias ↦ 3 | TxPower ↦ 4 ]
+
+abbrev pub meant : quantities.Quantity → Quantity
+meant q = quantity (quantity_number q)
 
 -- four numbers of two bytes from i on
 abbrev pub row : List ℕ → ℕ → List ℕ

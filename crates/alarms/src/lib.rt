@@ -2,19 +2,25 @@
 // Proved: the twelve bytes are those of the definition `conds` (document 01, "Samples and conditions").
 #![tactic(auto)]
 
-ghost use Rattle.std.specs.Prelude.{◌≡◌, ◌+◌, ◌*◌, ◌<◌, ◌≤◌, pos, length, if◌then◌else◌};
+ghost use Rattle.std.specs.Prelude.{◌≡◌, ◌+◌, ◌*◌, ◌<◌, ◌≤◌, ℕ, ℤ, pos, length};
 ghost use Rattle.std.specs.Int.Signed.{lt_z};
 ghost use Rattle.laws.specs.Tests.{one};
 ghost use Rattle.laws.specs.Lists.{at, table};
-ghost use Rattle.model.specs.Map.{state_size, flags, paged};
+ghost use Rattle.model.specs.Map.{flags, paged};
 ghost use Rattle.model.specs.Samples.{word, signed, four_of, offered, tx_power, sample_size, conds};
 ghost use Rattle.model.specs.Bytes.{memory_of};
-ghost use Rattle.address.specs.Meaning.{held_at};
-ghost use Rattle.alarms.specs.Decoded.{number_as, row, rows, cell};
+ghost use Rattle.alarms.specs.Decoded.{meant, row, rows, cell};
 
-use address::{Register, registers};
+use address::{State, registers};
+use std::array;
+
+mod quantities;
+
+pub use quantities::Quantity;
 
 // ---- a sample: three status bytes, then fourteen numbers of two bytes
+
+pub type Sample = [u8; SAMPLE_LEN];
 
 pub const SAMPLE_LEN: usize = 31;
 
@@ -30,18 +36,12 @@ pub const TX_POWER_IN: usize = TX_BIAS_IN + 8;
 
 // ---- numbers
 
-fn join(high: u8, low: u8) -> u16
-    ensures { result ≡ high * 256 + low }
-{
-    (high as u16) * 256 + low as u16
-}
-
 // The number of two bytes at `i`, high byte first.
 pub fn number(s: &[u8], i: usize) -> u16
     requires { i + 1 < length s.now }
     ensures { result ≡ word (at s.now) i }
 {
-    join(s[i], s[i + 1])
+    u16::from_be_bytes([s[i], s[i + 1]])
 }
 
 // Four numbers from `i` on: a quantity's channels, or its thresholds.
@@ -49,12 +49,7 @@ fn row_at(s: &[u8], i: usize) -> [u16; 4]
     requires { i + 7 < length s.now }
     ensures { result ≡ row s.now i }
 {
-    [
-        number(s, i),
-        number(s, i + 2),
-        number(s, i + 4),
-        number(s, i + 6),
-    ]
+    array::from_fn(|w| number(s, i + 2 * w))
 }
 
 // Three rows of four from `i` on: Rx power, Tx bias, Tx power.
@@ -62,70 +57,78 @@ fn rows_at(s: &[u8], i: usize) -> [[u16; 4]; 3]
     requires { i + 23 < length s.now }
     ensures { result ≡ rows s.now i }
 {
+    // written out: the closure of `array::from_fn` would need a `requires` of its own
     [row_at(s, i), row_at(s, i + 8), row_at(s, i + 16)]
 }
 
-// The thresholds that a register of page 03h holds.
-fn limits_at(state: &[u8], r: Register) -> [u16; 4]
-    requires { (length state.now ≡ state_size) × (r.0 < 4) }
-    ensures { result ≡ row state.now (held_at r) }
+// The thresholds of a quantity.
+pub fn limits_at(state: &State, q: Quantity) -> [u16; 4]
+    ensures { result ≡ row state.now (paged 3 (meant q).limits_from) }
 {
-    row_at(state, address::index(address::place_of(r)))
+    row_at(state, usize::from(q.limits_in().place()))
 }
 
-// Those of Rx power, Tx bias and Tx power, which stand one after the other.
-fn channel_limits(state: &[u8]) -> [[u16; 4]; 3]
-    requires { length state.now ≡ state_size }
+// Those of Rx power, Tx bias and Tx power.
+fn channel_limits(state: &State) -> [[u16; 4]; 3]
     ensures { result ≡ rows state.now (paged 3 176) }
 {
-    rows_at(
-        state,
-        address::index(address::place_of(registers::RX_POWER_LIMITS)),
-    )
+    // written out: by `map` over the three the proof does not close
+    [
+        limits_at(state, Quantity::RxPower),
+        limits_at(state, Quantity::TxBias),
+        limits_at(state, Quantity::TxPower),
+    ]
 }
 
 // ---- the alarm rule
-
-fn below_unsigned(a: u16, b: u16) -> u8
-    ensures { (result ≡ one (lt_z (pos a) (pos b))) × (result ≤ 1) }
-{
-    if a < b { 1 } else { 0 }
-}
 
 // Sixteen bits as a signed number.
 pub fn signed_of(n: u16) -> i16
     ensures { result ≡ signed n }
 {
-    if n < 32768 {
-        n as i16
-    } else {
-        !((65535 - n) as i16)
+    n.cast_signed()
+}
+
+// What sixteen bits are read as: `u16` without a sign, `i16` with one.
+trait Reading {
+    // The number that they stand for.
+    ghost whole: { ℕ → ℤ };
+
+    fn is_below(a: u16, b: u16) -> bool
+        ensures { result ≡ lt_z (whole a) (whole b) };
+}
+
+impl Reading for u16 {
+    ghost whole = { pos };
+
+    fn is_below(a: u16, b: u16) -> bool {
+        a < b
     }
 }
 
-fn below_signed(a: u16, b: u16) -> u8
-    ensures { (result ≡ one (lt_z (signed a) (signed b))) × (result ≤ 1) }
-{
-    let x = signed_of(a);
-    let y = signed_of(b);
-    if x < y { 1 } else { 0 }
+impl Reading for i16 {
+    ghost whole = { signed };
+
+    fn is_below(a: u16, b: u16) -> bool {
+        signed_of(a) < signed_of(b)
+    }
 }
 
-// 1 where the number of `a` is below that of `b`, both signed or neither.
-fn below(s: bool, a: u16, b: u16) -> u8
-    ensures { (result ≡ one (lt_z (number_as s a) (number_as s b))) × (result ≤ 1) }
+// 1 where the number of `a` is below that of `b`.
+fn below<T: Reading>(a: u16, b: u16) -> u8
+    ensures { (result ≡ one (lt_z (T.whole a) (T.whole b))) × (result ≤ 1) }
 {
-    if s {
-        return below_signed(a, b);
-    }
-    below_unsigned(a, b)
+    u8::from(T::is_below(a, b))
 }
 
 // The four conditions of a number against its thresholds: high alarm, low alarm, high warning, low warning, from bit 3 down.
-fn four_of(s: bool, n: u16, t: [u16; 4]) -> u8
-    ensures { (result ≡ four_of (number_as s n) (λ w. number_as s (at t w))) × (result ≤ 15) }
+fn four_of<T: Reading>(n: u16, t: [u16; 4]) -> u8
+    ensures { (result ≡ four_of (T.whole n) (λ w. T.whole (at t w))) × (result ≤ 15) }
 {
-    8 * below(s, t[0], n) + 4 * below(s, n, t[1]) + 2 * below(s, t[2], n) + below(s, n, t[3])
+    8 * below::<T>(t[0], n)
+        + 4 * below::<T>(n, t[1])
+        + 2 * below::<T>(t[2], n)
+        + below::<T>(n, t[3])
 }
 
 // One rule for four channels by three quantities: channel `c` of quantity `q`.
@@ -133,8 +136,7 @@ fn rule(x: [[u16; 4]; 3], t: [[u16; 4]; 3], q: usize, c: usize) -> u8
     requires { (q < 3) × (c < 4) }
     ensures { (result ≡ four_of (pos (cell x q c)) (λ w. pos (cell t q w))) × (result ≤ 15) }
 {
-    let limits = t[q];
-    four_of(false, x[q][c], limits)
+    four_of::<u16>(x[q][c], t[q])
 }
 
 // Flag byte `j` of a quantity: an odd channel in bits 7 to 4, the even one after it in bits 3 to 0.
@@ -147,39 +149,24 @@ fn flag_byte(x: [[u16; 4]; 3], t: [[u16; 4]; 3], q: usize, j: usize) -> u8
 
 // ---- the flag bytes of a sample
 
-fn temperature(state: &[u8], x: &[u8]) -> u8
-    requires { (length state.now ≡ state_size) × (length x.now ≡ sample_size) }
-    ensures { result ≡ conds (memory_of state.now) x.now 6 }
+// That of a quantity with one channel, in bits 7 to 4: its number stands at `i` of the sample.
+fn single<T: Reading>(state: &State, q: Quantity, x: &Sample, i: usize) -> u8
+    requires { i + 1 < sample_size }
+    ensures { result ≡ 16 * four_of (T.whole (word (at x.now) i)) (λ w. T.whole (at (row state.now (paged 3 (meant q).limits_from)) w)) }
 {
-    let limits = limits_at(state, registers::TEMPERATURE_LIMITS);
-    16 * four_of(true, number(x, TEMPERATURE_IN), limits)
-}
-
-fn supply(state: &[u8], x: &[u8]) -> u8
-    requires { (length state.now ≡ state_size) × (length x.now ≡ sample_size) }
-    ensures { result ≡ conds (memory_of state.now) x.now 7 }
-{
-    let limits = limits_at(state, registers::SUPPLY_LIMITS);
-    16 * four_of(false, number(x, SUPPLY_IN), limits)
+    16 * four_of::<T>(number(x, i), limits_at(state, q))
 }
 
 // Whether Tx power is offered.
-pub fn offers_tx(state: &[u8]) -> bool
-    requires { length state.now ≡ state_size }
+pub fn offers_tx(state: &State) -> bool
     ensures { result ≡ offered (memory_of state.now) tx_power }
 {
     address::stored(state, registers::MONITORS_OFFERED) / 4 % 2 == 1
 }
 
-fn only_if(t: bool, v: u8) -> u8
-    ensures { result ≡ (if t then v else 0) }
-{
-    if t { v } else { 0 }
-}
-
 // The conditions of the twelve flag bytes.
-pub fn conditions(state: &[u8], x: &[u8]) -> [u8; 12]
-    requires { (length state.now ≡ state_size) × (length x.now ≡ sample_size) }
+#[tactic(auto, unfolding(laws::specs::Lists::table, model::specs::Samples::conds, model::specs::Samples::conditions))]
+pub fn conditions(state: &State, x: &Sample) -> [u8; 12]
     ensures { result ≡ table flags.many (λ k. conds (memory_of state.now) x.now (flags.first + k)) }
 {
     let v = rows_at(x, RX_POWER_IN);
@@ -189,14 +176,14 @@ pub fn conditions(state: &[u8], x: &[u8]) -> [u8; 12]
         x[0],
         x[1],
         x[2],
-        temperature(state, x),
-        supply(state, x),
+        single::<i16>(state, Quantity::Temperature, x, TEMPERATURE_IN),
+        single::<u16>(state, Quantity::Supply, x, SUPPLY_IN),
         0,
         flag_byte(v, t, 0, 0),
         flag_byte(v, t, 0, 1),
         flag_byte(v, t, 1, 0),
         flag_byte(v, t, 1, 1),
-        only_if(tx, flag_byte(v, t, 2, 0)),
-        only_if(tx, flag_byte(v, t, 2, 1)),
+        if tx { flag_byte(v, t, 2, 0) } else { 0 },
+        if tx { flag_byte(v, t, 2, 1) } else { 0 },
     ]
 }

@@ -7,26 +7,43 @@ ghost use Rattle.std.specs.Int.Bits.{bit_and, bit_xor};
 ghost use Rattle.std.specs.Int.Count.{ones};
 ghost use Rattle.laws.specs.Tests.{first_of};
 ghost use Rattle.laws.specs.Lists.{at, sum};
-ghost use Rattle.ports.specs.Ports.{nobody};
 ghost use Rattle.ports.specs.Interrupt.{count_pair};
 ghost use Rattle.ports.specs.Modules.{miscounted, beyond, across};
+ghost use Rattle.refusal.specs.Numbers.{number_of};
 ghost use Rattle.both.specs.Beside.{beside};
+ghost use Rattle.both.specs.Ports.{IsPort};
+
+use refusal::Refusal;
 
 // ---- answers
 
-// What a read or a write answers: its refusal or 0, and the calling port's count after it.
-#[derive(Clone, Copy)]
-pub struct Answer {
-    pub refusal: u8,
-    pub count: u8,
-}
-
-// What a reset or a sample answers: its refusal or 0, and both ports' counts after it.
-#[derive(Clone, Copy)]
-pub struct Answers {
-    pub refusal: u8,
+// Both ports' counts after a reset or a sample.
+#[derive(Clone, Copy, Debug, PartialEq, Eq)]
+pub struct Counts {
     pub operator: u8,
     pub recorder: u8,
+}
+
+// ---- the ports
+
+#[derive(Clone, Copy, Debug, PartialEq, Eq)]
+pub enum Port {
+    Operator,
+    Recorder,
+}
+
+impl TryFrom<u64> for Port {
+    type Error = Refusal;
+
+    ghost try_from_gives = { IsPort };
+
+    fn try_from(number: u64) -> Result<Port, Refusal> {
+        match number {
+            1 => Ok(Port::Operator),
+            2 => Ok(Port::Recorder),
+            _ => Err(Refusal::NoSuchPort),
+        }
+    }
 }
 
 // ---- refusals
@@ -39,56 +56,49 @@ const WRITE_MOST: usize = 4;
 // Where lower memory ends.
 const LOWER: u64 = 128;
 
-// Whether a port is neither.
-pub fn is_nobody(port: u64) -> bool
-    ensures { result ≡ nobody port }
-{
-    (port != 1) & (port != 2)
-}
-
-// The refusals 4 to 6 of a read, or 0, where addresses end at `reach`.
-pub fn read_refusal(reach: u64, address: u64, count: u64, room: usize) -> u8
+// The refusals 4 to 6 of a read, where addresses end at `reach`.
+pub fn check_read(reach: u64, address: u64, count: u64, room: usize) -> Result<(), Refusal>
     requires { 128 ≤ reach }
-    ensures { result ≡ first_of ((4, miscounted 128 count) ∷ (5, beyond reach address count) ∷ (6, ltb room count) ∷ []) }
+    ensures { number_of result ≡ first_of ((4, miscounted 128 count) ∷ (5, beyond reach address count) ∷ (6, ltb room count) ∷ []) }
 {
     if (count == 0) | (READ_MOST < count) {
-        return 4;
+        return Err(Refusal::TransferSize);
     }
     if reach - count < address {
-        return 5;
+        return Err(Refusal::Range);
     }
     if room < count as usize {
-        return 6;
+        return Err(Refusal::OutputShort);
     }
-    0
+    Ok(())
 }
 
-// The refusals 4 and 5 of a write of `n` bytes, or 0.
-pub fn write_refusal(reach: u64, address: u64, n: usize) -> u8
+// The refusals 4 and 5 of a write of `n` bytes.
+pub fn check_write(reach: u64, address: u64, n: usize) -> Result<(), Refusal>
     requires { 128 ≤ reach }
-    ensures { result ≡ first_of ((4, miscounted 4 n) ∷ (5, beyond reach address n || across address n) ∷ []) }
+    ensures { number_of result ≡ first_of ((4, miscounted 4 n) ∷ (5, beyond reach address n || across address n) ∷ []) }
 {
     if (n == 0) | (WRITE_MOST < n) {
-        return 4;
+        return Err(Refusal::TransferSize);
     }
     let count = n as u64;
     if (reach - count < address) | ((address < LOWER) & (LOWER - count < address)) {
-        return 5;
+        return Err(Refusal::Range);
     }
-    0
+    Ok(())
 }
 
-// The refusals 3 and 8 of a sample, or 0: by whether each record is sound, and whether the sample has its length.
-pub fn sample_refusal(first: bool, second: bool, right: bool) -> u8
-    ensures { result ≡ first_of ((3, not first || not second) ∷ (8, not right) ∷ []) }
+// The refusals 3 and 8 of a sample: by whether each record is sound, and whether the sample has its length.
+pub fn check_sample(first: bool, second: bool, right: bool) -> Result<(), Refusal>
+    ensures { number_of result ≡ first_of ((3, not first || not second) ∷ (8, not right) ∷ []) }
 {
     if !first | !second {
-        return 3;
+        return Err(Refusal::UnsoundRecord);
     }
     if right {
-        return 0;
+        return Ok(());
     }
-    8
+    Err(Refusal::SampleSize)
 }
 
 // ---- the count
@@ -100,14 +110,25 @@ fn let_by(flags: u8, mask: u8) -> u8
     u8::count_ones(flags ^ (flags & mask)) as u8
 }
 
-// The count over `n` pairs side by side in the record at `base`: bytes from `f` on, their masks from `m` on.
-pub fn count_beside(state: &[u8], base: usize, n: usize, f: usize, m: usize) -> u8
-    requires { (base + (f + n) ≤ length state.now) × (base + (m + n) ≤ length state.now) × (n < 32) }
-    ensures { (result ≡ sum (map (count_pair (λ k. at state.now (base + k))) (beside n f m))) × (result ≤ 8 * n) }
+// Pairs side by side in a record: `many` flag bytes from `flags` on, and the mask of each from `masks` on.
+#[derive(Clone, Copy, Debug, PartialEq, Eq)]
+pub struct Pairs {
+    pub many: usize,
+    pub flags: usize,
+    pub masks: usize,
+    ghost few: { many < 32 },
+}
+
+// The count over such pairs of the record at `base`.
+pub fn count_beside(state: &[u8], base: usize, pairs: Pairs) -> u8
+    requires { (base + (pairs.flags + pairs.many) ≤ length state.now) × (base + (pairs.masks + pairs.many) ≤ length state.now) }
+    ensures { (result ≡ sum (map (count_pair (λ k. at state.now (base + k))) (beside pairs.many pairs.flags pairs.masks))) × (result ≤ 8 * pairs.many) }
 {
-    let mut c: u8 = 0;
-    for j in 0..n {
-        c += let_by(state[base + (f + j)], state[base + (m + j)]);
+    let first = base + pairs.flags;
+    let flags = &state[first..first + pairs.many];
+    let mut count: u8 = 0;
+    for (j, byte) in flags.iter().enumerate() {
+        count += let_by(*byte, state[base + (pairs.masks + j)]);
     }
-    c
+    count
 }

@@ -9,10 +9,7 @@ ghost use Rattle.model.specs.Module.{document01};
 ghost use Rattle.model.specs.Outcomes.{monitor_told, limits_told};
 ghost use Rattle.eight.specs.Module.{eight};
 ghost use Rattle.bridge.specs.Packing.{byte_of, refusal_in, value_in, limit_in};
-ghost use Rattle.log_first.specs.Meaning.{first_says};
 ghost use Rattle.bridge.specs.Face.{ReportPacked, ReadPacked, WritePacked, PlacePacked, KindPacked, AddPacked, OpenPacked, SamplePacked, FirstPacked, value_of_first, upper};
-
-use log_first::First;
 
 mod packing;
 
@@ -52,7 +49,7 @@ pub extern "C" fn zikhrodan_write(state: &mut [u8], port: u64, address: u64, byt
     packing::answer(module::write::write(state, port, address, bytes))
 }
 
-// ---- the same of the eight-channel module
+// ---- the same of the eight-channel module, each under a C name of its own
 
 #[unsafe(no_mangle)]
 pub extern "C" fn zikhrodan_dd_reset(state: &mut [u8]) -> u32
@@ -94,8 +91,7 @@ pub extern "C" fn zikhrodan_dd_write(state: &mut [u8], port: u64, address: u64, 
 pub extern "C" fn zikhrodan_identity(live: &[u8], factory: &[u8], field: u64) -> u32
     ensures { PlacePacked live.now factory.now field result }
 {
-    let f = readout::identity_place(live, factory, field);
-    packing::packed(f.refusal, f.page, f.start, f.length)
+    packing::place(readout::identity_place(live, factory, field))
 }
 
 // ---- monitors
@@ -105,7 +101,7 @@ pub extern "C" fn zikhrodan_monitor_kind(state: &[u8], number: u64) -> u32
     ensures { KindPacked state.now number result }
 {
     let m = readout::monitor(state, number);
-    packing::packed(packing::monitor_refusal(m), packing::kind(m), 0, 0)
+    packing::packed([packing::monitor_refusal(m), packing::kind(m), 0, 0])
 }
 
 #[unsafe(no_mangle)]
@@ -121,7 +117,7 @@ pub extern "C" fn zikhrodan_monitor_value(state: &[u8], number: u64) -> f64
 pub extern "C" fn zikhrodan_limits_refusal(state: &[u8], quantity: u64) -> u32
     ensures { result ≡ refusal_in (limits_told state.now quantity) }
 {
-    packing::limits_refusal(readout::limits(state, quantity)) as u32
+    u32::from(packing::limits_refusal(readout::limits(state, quantity)))
 }
 
 #[unsafe(no_mangle)]
@@ -133,64 +129,30 @@ pub extern "C" fn zikhrodan_limit(state: &[u8], quantity: u64, which: u64) -> f6
 
 // ---- a log of samples
 
-// A refusal and a value beside it in one number.
-fn told(refusal: u8, n: u64) -> u64
-    requires { n < 72057594037927936 }
-    ensures { (byte_of 0 result ≡ refusal) × (upper result ≡ n) }
-{
-    refusal as u64 + 256 * n
-}
-
 #[unsafe(no_mangle)]
 pub extern "C" fn zikhrodan_log_add(log: &mut [u8], used: u64, sample: &[u8]) -> u64
     ensures { AddPacked log.old used sample.now result log.new }
 {
-    let k = log_calls::add(log, used, sample);
-    told(k.refusal, k.used)
+    packing::told(log_calls::add(log, used, sample))
 }
 
 #[unsafe(no_mangle)]
 pub extern "C" fn zikhrodan_log_power_up(log: &mut [u8], used: u64) -> u64
     ensures { OpenPacked log.old used result log.new }
 {
-    let k = log_calls::power_up(log, used);
-    told(k.refusal, k.used)
+    packing::told(log_calls::power_up(log, used))
 }
 
 #[unsafe(no_mangle)]
 pub extern "C" fn zikhrodan_log_sample(log: &[u8], used: u64, position: u64) -> u64
     ensures { SamplePacked log.now used position result }
 {
-    let f = log_calls::sample_place(log, used, position);
-    told(f.refusal, f.start)
-}
-
-// The refusal of an answer to the question, 0 where there is none.
-fn first_refusal(f: First) -> u8
-    ensures { result ≡ refusal_in (first_says f) }
-{
-    match f {
-        First::At(_) => 0,
-        First::Never => 0,
-        First::Refused(n) => n,
-    }
-}
-
-// 0 for none, and else the position plus 1, its low 56 bits.
-fn first_value(f: First) -> u64
-    ensures { (result ≡ value_of_first (first_says f)) × (result < 72057594037927936) }
-{
-    match f {
-        First::At(n) => (n % 72057594037927936 + 1) % 72057594037927936,
-        First::Never => 0,
-        First::Refused(_) => 0,
-    }
+    packing::told(log_calls::sample_place(log, used, position))
 }
 
 #[unsafe(no_mangle)]
 pub extern "C" fn zikhrodan_log_first(log: &[u8], used: u64, bit: u64) -> u64
     ensures { FirstPacked log.now used bit result }
 {
-    let f = log_first::first_with(log, used, bit);
-    told(first_refusal(f), first_value(f))
+    packing::told(log_first::first_with(log, used, bit).map(packing::first))
 }

@@ -1,43 +1,79 @@
--- The tables as the code has them: two bytes have fewer than eight flags, and a record is sound by those alone. And two runs of a
--- record replaced.
+-- Where the records stand. The refusals of a call in steps, as the code finds them. A record is sound by the two bytes that have fewer
+-- than eight flags alone. And two runs of a record replaced.
 -- Assumes nothing.
+use Rattle.std.specs.Prelude.{if◌then◌else◌, Option, None, Err, MatchOption}
+use Rattle.std.specs.Option.{ok_or}
 use mathlib.Core.Path.{◌≡◌, refl, ap, ◌∙◌}
 use mathlib.Core.Logic.{◌≢◌}
-use mathlib.Core.Bool.{Bool, ◌&&◌, ◌||◌, and-true}
-use mathlib.Core.List.{List}
+use mathlib.Core.Bool.{Bool, false, ◌&&◌, and-true}
+use mathlib.Core.List.{List, ◌∷◌, ◌++◌}
 use Prim.Native.Nat.{ℕ, ◌+◌, ◌-◌, ◌≤◌, ◌<◌}
 use native.Mathlib.Omega.{arith}
 use lib.Bits.{bit_and, and_zero_r}
 use lib.Dec.{eqb, ltb}
 use lib.ListN.{length}
-use borrow.Author.Tests.{eqb-true, ne_eqb, ltb-true, ltb-false}
+use borrow.Author.Tests.{eq-eqb, ne_eqb, ltb-true, ltb-false}
+use Rattle.std.proofs.Common.{lit≤}
+use Rattle.std.proofs.Math.Bool.{and_assoc}
+use Rattle.laws.specs.Tests.{Row, first_of}
 use Rattle.laws.specs.Lists.{at, patch}
-use Rattle.laws.proofs.Tests.{case}
-use Rattle.laws.proofs.Finite.{always_at}
+use Rattle.laws.proofs.Tests.{case, if_not}
 use Rattle.laws.proofs.Lists.{patch_length, patch_in, patch_below, patch_above, patch_else, is_patch}
-use Rattle.ports.specs.Ports.{Places}
-use Rattle.eight.specs.Tables.{flag_bits, mask_bits}
-use Rattle.eight.specs.Module.{sound}
+use Rattle.ports.specs.Ports.{Port, operator, recorder, nobody, caller, Places}
+use Rattle.ports.specs.Modules.{base, state_size, wrong_size, port_rows}
+use Rattle.ports.specs.Bytes.{record_of, state_of, rows_of, refusal_of}
+use Rattle.ports.proofs.Taken.{port_first}
+use Rattle.eight.specs.Tables.{record_size}
+use Rattle.eight.specs.Module.{sound, eight, Call}
+use Rattle.refusal.specs.Numbers.{number}
+use Rattle.refusal.specs.declared.Refusal.{Refusal}
+use Rattle.refusal.specs.declared.Refusal.TheVariants.{StateSize}
+use Rattle.refusal.proofs.Unique.{none_is_0}
+use Rattle.both.specs.Ports.{port_number}
+use Rattle.both.specs.declared.Port.{Port as CodePort}
+use Rattle.both.specs.declared.Port.TheVariants.{Operator, Recorder}
 
--- computed
-flags_full : ℕ → Bool
-flags_full i = eqb i 5 || (eqb i 6 || eqb 255 (at flag_bits i))
+-- the records stand behind the memory
+pub record_fits : (p : Port) → base eight p + record_size ≤ state_size eight
+record_fits operator = lit≤ tt
+record_fits recorder = lit≤ tt
 
-pub flag_full : (i : ℕ) → i < 14 → i ≢ 5 → i ≢ 6 → 255 ≡ at flag_bits i
-unfolding flags_full
-flag_full i l m n = eqb-true 255 (at flag_bits i) (rw (ne_eqb i 5 m, ne_eqb i 6 n) at (always_at flags_full 14 refl i l))
+-- a port's number is somebody's
+a_port : (p : CodePort) → nobody (port_number p) ≡ false
+a_port Operator = refl
+a_port Recorder = refl
 
-masks_serve : ℕ → Bool
-masks_serve i = eqb i 6 || eqb (at flag_bits i) (at mask_bits i)
+-- the refusals 2 and 3 of a port that was found, with the soundness of its record
+pub port_found : (s : List ℕ) (p : CodePort) {n : ℕ} {a : Bool} → port_number p ≡ n → a ≡ sound (record_of eight s (base eight (caller (port_number p))))
+    → first_of (port_rows eight (state_of eight s) n) ≡ (if a then 0 else 3)
+unfolding state_of
+port_found s p {n} {a} is e = rw (← is, a_port p, e) (if_not (sound (record_of eight s (base eight (caller (port_number p))))) 3 0)
 
-pub mask_serves : (i : ℕ) → i < 14 → i ≢ 6 → at flag_bits i ≡ at mask_bits i
-unfolding masks_serve
-mask_serves i l n = eqb-true (at flag_bits i) (at mask_bits i) (rw (ne_eqb i 6 n) at (always_at masks_serve 14 refl i l))
+-- of any call by a port those come first, and then its own
+module _ (s : List ℕ) (n : ℕ) (own : List Row) (long : length s ≡ state_size eight) where
+  abbrev first_own : ℕ
+  first_own = first_of ((1, wrong_size eight s) ∷ port_rows eight (state_of eight s) n ++ own)
 
+  pub refused_first : (r : Refusal) → number r ≡ first_of (port_rows eight (state_of eight s) n) → number r ≡ first_own
+  refused_first r e = port_first eight s n own {r = number r} (rw (eq-eqb (length s) (state_size eight) long) e) (rw (ne_eqb (number r) 0 (none_is_0 r)))
+
+  pub taken_first : {r : ℕ} → 0 ≡ first_of (port_rows eight (state_of eight s) n) → r ≡ first_of own → r ≡ first_own
+  taken_first e f = port_first eight s n own {r = 0} (rw (eq-eqb (length s) (state_size eight) long) e) f
+
+-- a state of another length is refused 1: `as_mut_array` has none
+pub wrong_long : {A : Type 0} (P : A → Type 0) (s : List ℕ) (c : Call) (o : Option A) (r : Refusal) → MatchOption o (length s ≢ state_size eight) P → o ≡ None
+    → Err r ≡ ok_or o StateSize → number r ≡ refusal_of eight s c
+unfolding refusal_of rows_of
+wrong_long P s c o r d none is =
+    let off = rw none at d in
+    let e : r ≡ StateSize = let k = rw none at is in cc in
+    rw (e, ne_eqb (length s) (state_size eight) off)
+
+-- of a byte that may have all eight bits there is nothing to test
 pub sound_short : (o : Places)
-    → sound o ≡ (eqb (bit_and (o 5) 15) 0 && (eqb (bit_and (o 6) 48) 0 && (eqb (bit_and (o 19) 15) 0 && (eqb (bit_and (o 20) 49) 0 && (eqb (bit_and (o 33) 15) 0 && eqb (bit_and (o 34) 48) 0)))))
+    → sound o ≡ (eqb (bit_and (o 5) 15) 0 && eqb (bit_and (o 6) 48) 0 && eqb (bit_and (o 19) 15) 0 && eqb (bit_and (o 20) 49) 0 && eqb (bit_and (o 33) 15) 0 && eqb (bit_and (o 34) 48) 0)
 unfolding sound
-sound_short o = simp (and_zero_r, and-true)
+sound_short o = simp (and_zero_r, and-true, and_assoc)
 
 -- ---- two runs of the record at b: its flags, and its pending bits
 

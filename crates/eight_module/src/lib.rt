@@ -3,15 +3,20 @@
 // Proved: what each call answers and leaves is, for every input, that of the definitions (crates/eight), of which its rules are proved.
 #![tactic(auto)]
 
-ghost use Rattle.std.specs.Prelude.{◌≡◌, ◌∷◌, ◌≤◌, ◌<◌, ◌+◌, length};
+ghost use Rattle.std.specs.Prelude.{◌≡◌, IfOk};
 ghost use Rattle.laws.specs.Tests.{first_of};
-ghost use Rattle.laws.specs.Lists.{at};
 ghost use Rattle.ports.specs.Ports.{caller};
 ghost use Rattle.ports.specs.Interrupt.{count_of};
-ghost use Rattle.ports.specs.Modules.{base, state_size, wrong_size, port_rows};
+ghost use Rattle.ports.specs.Modules.{base, port_rows};
 ghost use Rattle.ports.specs.Bytes.{record_of, state_of};
-ghost use Rattle.eight.specs.Tables.{record_size, flag_bits, mask_bits, pairs};
+ghost use Rattle.eight.specs.Tables.{pairs};
 ghost use Rattle.eight.specs.Module.{sound, eight};
+ghost use Rattle.refusal.specs.Numbers.{number_of};
+ghost use Rattle.both.specs.Ports.{port_number};
+
+use both::{Pairs, Port};
+use moves::Run;
+use refusal::Refusal;
 
 pub mod read;
 pub mod reset;
@@ -20,14 +25,36 @@ pub mod write;
 
 // ---- addresses
 
-// How many there are; the first flag byte, the first mask byte, and how many each are.
+// How many there are; the flag bytes, and the mask bytes that serve them.
 const ADDRESSES: u64 = 128;
 
-const FLAGS: usize = 3;
-
-const MASKS: usize = 102;
-
 const MANY: usize = 14;
+
+const FLAGS: Run = Run {
+    first: 3,
+    many: MANY,
+};
+
+const MASKS: Run = Run {
+    first: 102,
+    many: MANY,
+};
+
+// ---- the bits that are flags, and masks
+
+// The two bytes that have fewer than eight flags: of the temperature, and of the module.
+const TEMPERATURE: usize = 5;
+
+const MODULE: usize = 6;
+
+// State changed, bit 0 of the module's flags, has no mask.
+const FLAG_BITS: [u8; MANY] = [
+    0xff, 0xff, 0xff, 0xff, 0xff, 0xf0, 0xcf, 0xff, 0xff, 0xff, 0xff, 0xff, 0xff, 0xff,
+];
+
+const MASK_BITS: [u8; MANY] = [
+    0xff, 0xff, 0xff, 0xff, 0xff, 0xf0, 0xce, 0xff, 0xff, 0xff, 0xff, 0xff, 0xff, 0xff,
+];
 
 // ---- the state: the conditions of the last accepted sample, then the operator's record, then the recorder's
 
@@ -46,86 +73,59 @@ const RECORD_LEN: usize = PENDING_IN + MANY;
 
 const STATE_LEN: usize = MEMORY_LEN + 2 * RECORD_LEN;
 
-// the two bytes that have fewer than eight flags: of the temperature, and of the module
-const TEMPERATURE: usize = 5;
-
-const MODULE: usize = 6;
+type State = [u8; STATE_LEN];
 
 // Where the record of a port begins.
-fn record_of(port: u64) -> usize
-    ensures { (result ≡ base eight (caller port)) × (14 ≤ result) × (result + record_size ≤ state_size eight) }
+fn record_of(port: Port) -> usize
+    ensures { result ≡ base eight (caller (port_number port)) }
 {
-    if port == 1 {
-        MEMORY_LEN
-    } else {
-        MEMORY_LEN + RECORD_LEN
+    match port {
+        Port::Operator => MEMORY_LEN,
+        Port::Recorder => MEMORY_LEN + RECORD_LEN,
     }
-}
-
-// ---- the bits that are flags, and masks
-
-// The flags of flag byte `i`, from 0.
-fn flag_bits(i: usize) -> u8
-    requires { i < 14 }
-    ensures { result ≡ at flag_bits i }
-{
-    if i == TEMPERATURE {
-        return 0xf0;
-    }
-    if i == MODULE {
-        return 0xcf;
-    }
-    0xff
-}
-
-// The masks of mask byte `i`: state changed, bit 0 of the module's flags, has none.
-fn mask_bits(i: usize) -> u8
-    requires { i < 14 }
-    ensures { result ≡ at mask_bits i }
-{
-    if i == MODULE {
-        return 0xce;
-    }
-    flag_bits(i)
 }
 
 // ---- soundness
 
-// Whether the record at `base` is sound: no bit is set that is no flag and no paired mask.
-fn is_sound(state: &[u8], base: usize) -> bool
-    requires { (length state.now ≡ state_size eight) × (base + record_size ≤ state_size eight) }
-    ensures { result ≡ sound (record_of eight state.now base) }
+// Whether the record of `port` is sound: no bit is set that is no flag and no paired mask.
+fn is_sound(state: &State, port: Port) -> bool
+    ensures { result ≡ sound (record_of eight state.now (base eight (caller (port_number port)))) }
 {
-    (state[base + (FLAGS_IN + TEMPERATURE)] & 0x0f == 0)
-        & ((state[base + (FLAGS_IN + MODULE)] & 0x30 == 0)
-            & ((state[base + (MASKS_IN + TEMPERATURE)] & 0x0f == 0)
-                & ((state[base + (MASKS_IN + MODULE)] & 0x31 == 0)
-                    & ((state[base + (PENDING_IN + TEMPERATURE)] & 0x0f == 0)
-                        & (state[base + (PENDING_IN + MODULE)] & 0x30 == 0)))))
+    let base = record_of(port);
+    (state[base + (FLAGS_IN + TEMPERATURE)] & !FLAG_BITS[TEMPERATURE] == 0)
+        & (state[base + (FLAGS_IN + MODULE)] & !FLAG_BITS[MODULE] == 0)
+        & (state[base + (MASKS_IN + TEMPERATURE)] & !MASK_BITS[TEMPERATURE] == 0)
+        & (state[base + (MASKS_IN + MODULE)] & !MASK_BITS[MODULE] == 0)
+        & (state[base + (PENDING_IN + TEMPERATURE)] & !FLAG_BITS[TEMPERATURE] == 0)
+        & (state[base + (PENDING_IN + MODULE)] & !FLAG_BITS[MODULE] == 0)
 }
 
-// The refusals 1 to 3 of any call by a port, or 0.
-fn port_refusal(state: &[u8], port: u64) -> u8
-    ensures { result ≡ first_of ((1, wrong_size eight state.now) ∷ port_rows eight (state_of eight state.now) port) }
+// The port of a number, or the refusals 2 and 3 of any call by a port. `record::caller` is the same of document 01's module: what they share
+// is `Port::try_from`, and a generic one would be handed all the rest.
+fn check_port(state: &State, port: u64) -> Result<Port, Refusal>
+    ensures refusal { number_of result ≡ first_of (port_rows eight (state_of eight state.now) port) }
+    ensures found { IfOk result (λ p. port_number p ≡ port) }
 {
-    if state.len() != STATE_LEN {
-        return 1;
+    let port = Port::try_from(port)?;
+    if !is_sound(state, port) {
+        return Err(Refusal::UnsoundRecord);
     }
-    if both::is_nobody(port) {
-        return 2;
-    }
-    if is_sound(state, record_of(port)) {
-        return 0;
-    }
-    3
+    Ok(port)
 }
 
 // ---- the count
 
-// The pending bits that the masks of the record at `base` let through.
-fn count_of(state: &[u8], base: usize) -> u8
-    requires { (length state.now ≡ state_size eight) × (base + record_size ≤ state_size eight) }
-    ensures { result ≡ count_of pairs (record_of eight state.now base) }
+// The pending bits that the masks of the record of `port` let through.
+fn count_of(state: &State, port: Port) -> u8
+    ensures { result ≡ count_of pairs (record_of eight state.now (base eight (caller (port_number port)))) }
 {
-    both::count_beside(state, base, MANY, PENDING_IN, MASKS_IN)
+    both::count_beside(
+        state,
+        record_of(port),
+        Pairs {
+            many: MANY,
+            flags: PENDING_IN,
+            masks: MASKS_IN,
+        },
+    )
 }

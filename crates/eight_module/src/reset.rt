@@ -1,24 +1,25 @@
 // The reset, on lent memory.
 // Proved: for every state, the refusal and the bytes left are those of the definitions.
-ghost use Rattle.std.specs.Prelude.{◌≡◌};
+ghost use Rattle.std.specs.Prelude.{◌≡◌, IfOk, IfErr};
 ghost use Rattle.ports.specs.Ports.{reset};
 ghost use Rattle.ports.specs.Outcomes.{Reported};
 ghost use Rattle.eight.specs.Module.{eight};
+ghost use Rattle.refusal.specs.Numbers.{number};
 
-use both::Answers;
+use super::STATE_LEN;
+use both::Counts;
+use refusal::Refusal;
 
 // Resets the module: nothing is raised, masked or pending, and no condition stood before.
-pub fn reset(state: &mut [u8]) -> Answers
-    ensures { Reported eight state.old (reset tt) result.refusal result.operator result.recorder state.new }
+// The state stays a slice: C hands it over so (zikhrodan_dd_reset).
+pub fn reset(state: &mut [u8]) -> Result<Counts, Refusal>
+    ensures accepted { IfOk result (λ n. Reported eight state.old (reset tt) 0 n.operator n.recorder state.new) }
+    ensures refused { IfErr result (λ r. Reported eight state.old (reset tt) (number r) 0 0 state.new) }
 {
-    let mut refusal: u8 = 1;
-    if state.len() == super::STATE_LEN {
-        moves::fill(state, super::MEMORY, super::STATE_LEN, 0);
-        refusal = 0;
-    }
-    Answers {
-        refusal,
+    let state = state.as_mut_array::<STATE_LEN>().ok_or(Refusal::StateSize)?;
+    state.fill(0);
+    Ok(Counts {
         operator: 0,
         recorder: 0,
-    }
+    })
 }

@@ -1,108 +1,99 @@
 // The sample, on lent memory.
 // Proved: for every state and sample, the refusal, both counts and the bytes left are those of the definitions.
-ghost use Rattle.std.specs.Prelude.{◌≡◌, ◌≤◌, ◌+◌, length};
+ghost use Rattle.std.specs.Prelude.{◌≡◌, length, ◌≤◌, ◌+◌, IfOk, IfErr};
 ghost use Rattle.std.specs.Int.Bits.{bit_or, bit_and, bit_xor};
 ghost use Rattle.laws.specs.Lists.{at, table, patch};
-ghost use Rattle.ports.specs.Ports.{sample};
-ghost use Rattle.ports.specs.Modules.{state_size};
+ghost use Rattle.ports.specs.Ports.{sample, caller};
+ghost use Rattle.ports.specs.Modules.{base};
 ghost use Rattle.ports.specs.Bytes.{refusal_of};
 ghost use Rattle.ports.specs.Outcomes.{Reported};
 ghost use Rattle.eight.specs.Tables.{record_size};
 ghost use Rattle.eight.specs.Module.{conditions, eight};
-ghost use Rattle.eight_module.specs.Joined.{led, joined};
+ghost use Rattle.refusal.specs.Numbers.{number, number_of};
+ghost use Rattle.both.specs.Ports.{port_number};
+ghost use Rattle.eight_module.specs.Joined.{joined};
 
-use both::Answers;
+use super::{STATE_LEN, State};
+use both::{Counts, Port};
+use refusal::Refusal;
+use std::array;
 
-// The refusals of a sample, or 0.
-fn refusal_of(state: &[u8], x: &[u8]) -> u8
-    ensures { result ≡ refusal_of eight state.now (sample x.now) }
+// A byte for each flag byte.
+type Bytes = [u8; super::MANY];
+
+// The sample, or why it is not taken.
+fn check<'a>(state: &State, x: &'a [u8]) -> Result<&'a Bytes, Refusal>
+    ensures refusal { number_of result ≡ refusal_of eight state.now (sample x.now) }
+    ensures found { IfOk result (λ y. y.now ≡ x.now) }
 {
-    if state.len() != super::STATE_LEN {
-        return 1;
+    if !super::is_sound(state, Port::Operator) | !super::is_sound(state, Port::Recorder) {
+        return Err(Refusal::UnsoundRecord);
     }
-    let first = super::is_sound(state, super::record_of(1));
-    let second = super::is_sound(state, super::record_of(2));
-    both::sample_refusal(first, second, x.len() == super::MANY)
+    x.as_array().ok_or(Refusal::SampleSize)
 }
 
-// Fourteen bytes behind two zeros: so sixteen places are joined at once, and the two before a run stay as they are.
+// The conditions of a sample, its bits that are flags.
+fn conditions(x: &Bytes) -> Bytes
+    ensures { result ≡ table 14 (conditions x.now) }
+{
+    array::from_fn(|k| x[k] & super::FLAG_BITS[k])
+}
+
+// Those of the conditions `cs` that have their onset: absent in the accepted sample before.
+fn onsets(state: &State, cs: Bytes) -> Bytes
+    ensures { result ≡ table 14 (λ i. bit_xor (at cs i) (bit_and (at cs i) (at state.now i))) }
+{
+    array::from_fn(|k| cs[k] ^ (cs[k] & state[k]))
+}
+
+// Two zeros before the bytes: so sixteen places are joined at once, and the two before the run stay as they are. Without them a sample takes
+// more than its 300 instructions.
 const LEAD: usize = 2;
 
 const LED: usize = LEAD + super::MANY;
 
-// The conditions of a sample, its bits that are flags, behind the two zeros.
-fn conditions(x: &[u8]) -> [u8; 16]
-    requires { length x.now ≡ 14 }
-    ensures { (result ≡ table 16 (led (conditions x.now))) × (at result 0 ≡ 0) × (at result 1 ≡ 0) }
+// Joins `bytes` to the run of places from `to` on.
+fn join(state: &mut State, to: usize, bytes: Bytes)
+    requires { (2 ≤ to) × (to + 14 ≤ length state.old) }
+    ensures { state.new ≡ patch to 14 (λ j. bit_or (at state.old (to + j)) (at bytes j)) state.old }
 {
-    let mut cs = [0; 16];
-    for k in 0..super::MANY {
-        cs[k + LEAD] = x[k] & super::flag_bits(k);
-    }
-    cs
+    let mut led = [0; LED];
+    moves::copy(&mut led, LEAD, &bytes);
+    moves::join(state, to - LEAD, &led);
 }
 
-// Those of them that have their onset: absent in the accepted sample before.
-fn onsets(state: &[u8], cs: [u8; 16]) -> [u8; 16]
-    requires { length state.now ≡ state_size eight }
-    ensures { (result ≡ table 16 (led (λ i. bit_xor (at cs (i + 2)) (bit_and (at cs (i + 2)) (at state.now i))))) × (at result 0 ≡ 0) × (at result 1 ≡ 0) }
+// Raises the conditions `cs` and marks the onsets `os` as pending in the record of `port`.
+fn raise(state: &mut State, port: Port, cs: Bytes, os: Bytes)
+    ensures { let b = base eight (caller (port_number port)) in state.new ≡ patch b record_size (λ k. joined cs os k (at state.old (b + k))) state.old }
 {
-    let mut os = [0; 16];
-    for k in 0..super::MANY {
-        os[k + LEAD] = cs[k + LEAD] ^ (cs[k + LEAD] & state[k]);
-    }
-    os
-}
-
-// Joins the fourteen bytes of `bs` to the run of places from `to` on.
-fn join(state: &mut [u8], to: usize, bs: [u8; 16])
-    requires { (2 ≤ to) × (to + 14 ≤ length state.old) × (at bs 0 ≡ 0) × (at bs 1 ≡ 0) }
-    ensures { state.new ≡ patch to 14 (λ j. bit_or (at state.old (to + j)) (at bs (j + 2))) state.old }
-{
-    moves::join(state, to - LEAD, &bs, LED);
-}
-
-// Raises the conditions `cs` and marks the onsets `os` as pending in the record at `base`.
-fn raise(state: &mut [u8], base: usize, cs: [u8; 16], os: [u8; 16])
-    requires { (length state.old ≡ state_size eight) × (2 ≤ base) × (base + record_size ≤ state_size eight) × (at cs 0 ≡ 0) × (at cs 1 ≡ 0) × (at os 0 ≡ 0) × (at os 1 ≡ 0) }
-    ensures { state.new ≡ patch base record_size (λ k. joined cs os k (at state.old (base + k))) state.old }
-{
+    let base = super::record_of(port);
     join(state, base + super::FLAGS_IN, cs);
     join(state, base + super::PENDING_IN, os);
 }
 
 // An accepted sample.
-fn accept(state: &mut [u8], x: &[u8]) -> Answers
+fn accept(state: &mut State, x: &Bytes) -> Counts
     requires { refusal_of eight state.old (sample x.now) ≡ 0 }
-    ensures { Reported eight state.old (sample x.now) result.refusal result.operator result.recorder state.new }
+    ensures { Reported eight state.old (sample x.now) 0 result.operator result.recorder state.new }
 {
     let cs = conditions(x);
     let os = onsets(state, cs);
-    let first = super::record_of(1);
-    let second = super::record_of(2);
-    moves::copy(state, super::MEMORY, &cs, LEAD, super::MANY);
-    raise(state, first, cs, os);
-    raise(state, second, cs, os);
-    let operator = super::count_of(state, first);
-    let recorder = super::count_of(state, second);
-    Answers {
-        refusal: 0,
-        operator,
-        recorder,
+    moves::copy(state, super::MEMORY, &cs);
+    raise(state, Port::Operator, cs, os);
+    raise(state, Port::Recorder, cs, os);
+    Counts {
+        operator: super::count_of(state, Port::Operator),
+        recorder: super::count_of(state, Port::Recorder),
     }
 }
 
 // Takes a sample: raises its conditions in both records, marks their onsets as pending there, and keeps them for the next sample.
-pub fn sample(state: &mut [u8], x: &[u8]) -> Answers
-    ensures { Reported eight state.old (sample x.now) result.refusal result.operator result.recorder state.new }
+// The state and the sample stay slices: C hands them over so (zikhrodan_dd_sample).
+pub fn sample(state: &mut [u8], x: &[u8]) -> Result<Counts, Refusal>
+    ensures accepted { IfOk result (λ n. Reported eight state.old (sample x.now) 0 n.operator n.recorder state.new) }
+    ensures refused { IfErr result (λ r. Reported eight state.old (sample x.now) (number r) 0 0 state.new) }
 {
-    let refusal = refusal_of(state, x);
-    if refusal == 0 {
-        return accept(state, x);
-    }
-    Answers {
-        refusal,
-        operator: 0,
-        recorder: 0,
-    }
+    let state = state.as_mut_array::<STATE_LEN>().ok_or(Refusal::StateSize)?;
+    let x = check(state, x)?;
+    Ok(accept(state, x))
 }

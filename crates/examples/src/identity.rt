@@ -1,30 +1,37 @@
 // The identity of the image, by its three calls.
-use crate::print;
+use crate::print::{Hex, code};
+use readout::Found;
 use std::io;
 
-fn field(rt: &impl Print, page: &[u8], name: &[u8], number: u64) -> io::Result<()> {
-    let place = readout::identity_place(page, page, number);
-    let refusal = readout::identity_refusal(page, page, number);
-    let view = readout::identity_view(page, page, number);
-    print::text(rt, name)?;
-    print::text(rt, b": refusal")?;
-    print::number(rt, place.refusal as u64)?;
-    print::number(rt, refusal as u64)?;
-    print::text(rt, b", page, start and length")?;
-    print::number(rt, place.page as u64)?;
-    print::number(rt, place.start as u64)?;
-    print::number(rt, place.length as u64)?;
-    print::text(rt, b":")?;
-    print::bytes(rt, view)?;
-    print::end(rt)
-}
+const FIELDS: [(&str, u64); 7] = [
+    ("vendor name", 1),
+    ("vendor OUI", 2),
+    ("part number", 3),
+    ("revision", 4),
+    ("serial number", 5),
+    ("date code", 6),
+    ("field 7", 7),
+];
 
 pub fn fields(rt: &impl Print, page: &[u8]) -> io::Result<()> {
-    field(rt, page, b"vendor name", 1)?;
-    field(rt, page, b"vendor OUI", 2)?;
-    field(rt, page, b"part number", 3)?;
-    field(rt, page, b"revision", 4)?;
-    field(rt, page, b"serial number", 5)?;
-    field(rt, page, b"date code", 6)?;
-    field(rt, page, b"field 7", 7)
+    for (name, number) in FIELDS {
+        let place = readout::identity_place(page, page, number);
+        let refusal = code(readout::identity_refusal(page, page, number));
+        let view = Hex(readout::identity_view(page, page, number));
+        print!(rt;
+            "{name}: refusal {} {refusal}, page, start and length",
+            code(place)
+        )?;
+        match place {
+            Ok(
+                Found {
+                    page,
+                    start,
+                    length,
+                },
+            ) => println!(rt; " {} {start} {length}:{view}", u8::from(page))?,
+            Err(_) => println!(rt; " 0 0 0:{view}")?,
+        }
+    }
+    Ok(())
 }

@@ -9,6 +9,7 @@ mod eight_channels;
 mod identity;
 mod log;
 mod print;
+mod sample;
 mod steps;
 mod table;
 
@@ -17,7 +18,7 @@ use std::io::{self, Read};
 fn main(rt: HostRuntime) -> io::Result<()> {
     let mut image = [0u8; 640];
     if rt.stdin().read_exact(&mut image).is_err() {
-        return print::text(&rt, b"standard input is no image of 640 bytes\n");
+        return println!(&rt; "standard input is no image of 640 bytes");
     }
     table::flags(&rt, &image)?;
     steps::edges(&rt, &image)?;

@@ -78,3 +78,15 @@ put_back a n s ys h e =
 pub table_front : (n : ℕ) (s : List ℕ) → n ≤ length s → table n (at s) ≡ part 0 n s
 table_front n s h = is_part 0 n s (omega arith) (table n (at s)) (table_length n (at s))
     (λ i l. let z : 0 + i ≡ i = omega arith in rw z (table_at n (at s) i l))
+
+-- ---- what `&s[a..a + n]` has
+
+module _ (a n : ℕ) (s : List ℕ) (fits : a + n ≤ length s) where
+  end_is : a + n - a ≡ n
+  end_is = omega arith
+
+  pub slice_length : length (take (a + n - a) (drop a s)) ≡ n
+  slice_length = rw end_is (part_length a n s fits)
+
+  pub slice_at : (j : ℕ) → j < n → at (take (a + n - a) (drop a s)) j ≡ at s (a + j)
+  slice_at j h = rw end_is (part_at a n s fits j h)

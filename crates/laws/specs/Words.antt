@@ -2,7 +2,7 @@
 -- else: those of the toolchain's library, here in one place, and the few of our own that know of no document. Every file takes the
 -- library's operators from the library itself, as rt asks; which it may take stands here.
 -- Assumes nothing.
-pub use Rattle.std.specs.Prelude.{ℕ, zero, suc, ◌+◌, ◌-◌, ◌*◌, ◌/◌, ◌%◌, ◌^◌, ◌<◌, ◌≤◌, ℤ, pos, nat_abs, negsuc, neg_ℤ, Bool, true, false, not, ◌&&◌, ◌||◌, eqb, ltb, leb, ◌≡◌, ◌↔◌, ◌≢◌, if◌then◌else◌, length, get_or, take, drop, set, replicate, Float}
+pub use Rattle.std.specs.Prelude.{ℕ, zero, suc, ◌+◌, ◌-◌, ◌*◌, ◌/◌, ◌%◌, ◌^◌, ◌<◌, ◌≤◌, ℤ, pos, nat_abs, negsuc, neg_ℤ, Bool, true, false, not, ◌&&◌, ◌||◌, eqb, ltb, leb, ◌≡◌, ◌↔◌, ◌≢◌, if◌then◌else◌, length, get_or, take, drop, set, replicate, Float, Result, Ok, Err, MatchResult, Some, None}
 pub use Rattle.std.specs.Int.Bits.{bit_or, bit_and, bit_xor}
 pub use Rattle.std.specs.Int.Count.{ones}
 pub use Rattle.std.specs.Int.Signed.{non_neg, lt_z}

@@ -1,142 +1,121 @@
 // The calls that change a log of samples: a sample added, a power-up.
 // Proved: for every memory, used number and sample, the refusal, the used number after it and the bytes left are those of document
 // 02's Ask 1 and Ask 9 (block/specs, log_model/specs).
-ghost use Rattle.std.specs.Prelude.{◌≡◌, ◌+◌, ◌*◌, ◌≤◌, ◌<◌, length};
-ghost use Rattle.block.specs.Block.{block_size, sample_size, count, most_samples, grown};
-ghost use Rattle.log_model.specs.Log.{block, last_number, needs_new, put, none_left, new_block};
-ghost use Rattle.log_model.specs.Outcomes.{add_refusal, power_up_refusal, Added, Opened};
+ghost use Rattle.std.specs.Prelude.{◌≡◌, false, ◌+◌, ◌*◌, ◌≤◌, ◌<◌, ◌∷◌, [], ◌&&◌, ◌||◌, leb, eqb, length, IfOk, IfErr};
+ghost use Rattle.std.specs.List.{concat};
+ghost use Rattle.laws.specs.Tests.{first_of};
+ghost use Rattle.block.specs.Block.{block_size, count, most_samples, grown};
+ghost use Rattle.log_model.specs.Log.{blocks, block, last_number, needs_new, put, none_left, new_block, unsound};
+ghost use Rattle.log_model.specs.Outcomes.{power_up_refusal, Added, Opened};
+ghost use Rattle.refusal.specs.Numbers.{number, number_of};
 
-use log_block::{BLOCK_LEN, SAMPLE_LEN};
-
-// The answer of an add or a power-up: the refusal, and the used number after it, 0 where it is refused.
-#[derive(Clone, Copy)]
-pub struct Kept {
-    pub refusal: u8,
-    pub used: u64,
-}
+use super::walk::sound_blocks;
+use log_block::{BLOCK_LEN, Block, SAMPLE_LEN, Sample};
+use refusal::Refusal;
 
 // ---- the last used block
 
-// The number of the last used block, 0 where none is used.
-fn last_number(log: &[u8], used: usize) -> u64
-    requires { block_size * used ≤ length log.now }
-    ensures { (result ≡ last_number log.now used) × (result < 4294967296) }
+// The number of the last of some blocks, 0 where there is none.
+#[tactic(auto, using(crate::proofs::Blocks::last_joined))]
+fn last_number(blocks: &[Block]) -> u32
+    ensures { result ≡ last_number (concat blocks.now) (length blocks.now) }
 {
-    if used == 0 {
-        return 0;
+    match blocks {
+        [.., last] => log_block::number_of(last),
+        [] => 0,
     }
-    log_block::number_of(super::walk::block_of(log, used - 1))
 }
 
 // Whether a sample needs a new block.
-fn needs_new(log: &[u8], used: usize) -> bool
-    requires { block_size * used ≤ length log.now }
-    ensures { result ≡ needs_new log.now used }
+#[tactic(auto, using(crate::proofs::Blocks::full_joined))]
+fn needs_new(blocks: &[Block]) -> bool
+    ensures { result ≡ needs_new (concat blocks.now) (length blocks.now) }
 {
-    if used == 0 {
-        return true;
+    match blocks {
+        [.., last] => log_block::MOST_SAMPLES <= log_block::count_of(last),
+        [] => true,
     }
-    log_block::MOST_SAMPLES <= log_block::count_of(super::walk::block_of(log, used - 1))
 }
 
-// Whether there can be no new block.
-fn none_left(log: &[u8], used: usize) -> bool
-    requires { block_size * used ≤ length log.now }
-    ensures { result ≡ none_left log.now used }
+// Whether there can be no new block behind the used ones.
+fn none_left(log: &[u8], used: &[Block]) -> bool
+    ensures { result ≡ (leb (blocks log.now) (length used.now) || eqb (last_number (concat used.now) (length used.now)) 4294967295) }
 {
-    let last = last_number(log, used);
-    (log.len() / BLOCK_LEN <= used) | (last == 4294967295)
+    (log.len() / BLOCK_LEN <= used.len()) | (last_number(used) == u32::MAX)
 }
 
 // ---- refusals
 
-// The refusals of an add, or 0.
-fn add_refusal(log: &[u8], used: u64, sample: &[u8]) -> u8
-    ensures { result ≡ add_refusal log.now used sample.now }
+// Whether a sample of the right length needs a new block; refused where the sample is.
+fn check_add(log: &[u8], used: u64) -> Result<bool, Refusal>
+    ensures code { number_of result ≡ first_of ((15, unsound log.now used) ∷ (14, needs_new log.now used && none_left log.now used) ∷ []) }
+    ensures accepted { IfOk result (λ is_new. is_new ≡ needs_new log.now used) }
 {
-    if sample.len() != SAMPLE_LEN {
-        return 8;
+    let blocks = sound_blocks(log, used)?;
+    let is_new = needs_new(blocks);
+    if is_new & none_left(log, blocks) {
+        return Err(Refusal::LogFull);
     }
-    if super::walk::is_unsound(log, used) {
-        return 15;
-    }
-    if needs_new(log, used as usize) & none_left(log, used as usize) {
-        return 14;
-    }
-    0
+    Ok(is_new)
 }
 
-// The refusals of a power-up, or 0.
-fn power_up_refusal(log: &[u8], used: u64) -> u8
-    ensures { result ≡ power_up_refusal log.now used }
+// Refused where a power-up is.
+#[tactic(auto, using(crate::proofs::Blocks::cut_none_left))]
+fn check_power_up(log: &[u8], used: u64) -> Result<(), Refusal>
+    ensures { number_of result ≡ power_up_refusal log.now used }
 {
-    if super::walk::is_unsound(log, used) {
-        return 15;
+    let blocks = sound_blocks(log, used)?;
+    if none_left(log, blocks) {
+        return Err(Refusal::LogFull);
     }
-    if none_left(log, used as usize) {
-        return 14;
-    }
-    0
+    Ok(())
 }
 
 // ---- blocks that are written
 
 // Opens the block after the used ones.
 fn open_block(log: &mut [u8], used: usize)
-    requires { block_size * used + block_size ≤ length log.old }
+    requires { none_left log.old used ≡ false }
     ensures { log.new ≡ put log.old used (new_block log.old used) }
 {
-    let last = last_number(log, used);
-    let start = BLOCK_LEN * used;
-    let end = start + BLOCK_LEN;
-    log_block::begin(&mut log[start..end], last + 1);
+    let (blocks, _) = log.as_chunks();
+    let number = last_number(&blocks[..used]) + 1;
+    let (_, rest) = log.split_at_mut(BLOCK_LEN * used);
+    log_block::begin(rest.first_chunk_mut().unwrap(), u64::from(number));
 }
 
 // Puts a sample into block `i`.
-fn grow_block(log: &mut [u8], i: usize, sample: &[u8])
-    requires { (block_size * i + block_size ≤ length log.old) × (length sample.now ≡ sample_size) × (count (block log.old i) < most_samples) }
+fn grow_block(log: &mut [u8], i: usize, sample: &Sample)
+    requires { (block_size * i + block_size ≤ length log.old) × (count (block log.old i) < most_samples) }
     ensures { log.new ≡ put log.old i (grown (block log.old i) sample.now) }
 {
-    let start = BLOCK_LEN * i;
-    let end = start + BLOCK_LEN;
-    log_block::grow(&mut log[start..end], sample);
+    let (_, rest) = log.split_at_mut(BLOCK_LEN * i);
+    log_block::grow(rest.first_chunk_mut().unwrap(), sample);
 }
 
 // ---- the calls that change a log
 
-// Opens a new block, as a module that was powered up does.
-pub fn power_up(log: &mut [u8], used: u64) -> Kept
-    ensures { Opened log.old used result.refusal result.used log.new }
+// Opens a new block, as a module that was powered up does: the used number after it.
+pub fn power_up(log: &mut [u8], used: u64) -> Result<u64, Refusal>
+    ensures accepted { IfOk result (λ n. Opened log.old used 0 n log.new) }
+    ensures refused { IfErr result (λ r. Opened log.old used (number r) 0 log.new) }
 {
-    let refusal = power_up_refusal(log, used);
-    if refusal != 0 {
-        return Kept { refusal, used: 0 };
-    }
+    check_power_up(log, used)?;
     open_block(log, used as usize);
-    let after = used + 1;
-    Kept {
-        refusal,
-        used: after,
-    }
+    Ok(used + 1)
 }
 
-// Adds a sample, in the last used block if that has room, else in a new one.
-pub fn add(log: &mut [u8], used: u64, sample: &[u8]) -> Kept
-    ensures { Added log.old used sample.now result.refusal result.used log.new }
+// Adds a sample, in the last used block if that has room, else in a new one: the used number after it.
+pub fn add(log: &mut [u8], used: u64, sample: &[u8]) -> Result<u64, Refusal>
+    ensures accepted { IfOk result (λ n. Added log.old used sample.now 0 n log.new) }
+    ensures refused { IfErr result (λ r. Added log.old used sample.now (number r) 0 log.new) }
 {
-    let refusal = add_refusal(log, used, sample);
-    if refusal != 0 {
-        return Kept { refusal, used: 0 };
-    }
-    if needs_new(log, used as usize) {
+    let sample = sample.as_array::<SAMPLE_LEN>().ok_or(Refusal::SampleSize)?;
+    if check_add(log, used)? {
         open_block(log, used as usize);
         grow_block(log, used as usize, sample);
-        let more = used + 1;
-        return Kept {
-            refusal,
-            used: more,
-        };
+        return Ok(used + 1);
     }
     grow_block(log, used as usize - 1, sample);
-    Kept { refusal, used }
+    Ok(used)
 }

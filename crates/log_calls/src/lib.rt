@@ -7,5 +7,5 @@ mod change;
 mod sample;
 pub mod walk;
 
-pub use change::{Kept, add, power_up};
-pub use sample::{Found, sample_place, sample_view};
+pub use change::{add, power_up};
+pub use sample::{sample_place, sample_view};

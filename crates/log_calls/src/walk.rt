@@ -1,59 +1,46 @@
 // The walk over the used blocks of a log: whether each is sound, and their numbers rise by one.
 // Proved: refusal 15 of an add, a power-up and a reading is given exactly when document 02 says so (Ask 1, Ask 9; log_model/specs).
-ghost use Rattle.std.specs.Prelude.{◌≡◌, true, false, ◌+◌, ◌*◌, ◌≤◌, length};
+ghost use Rattle.std.specs.Prelude.{◌≡◌, ◌≤◌, true, false, length, IfOk, IfErr};
+ghost use Rattle.std.specs.List.{concat};
+ghost use Rattle.std.specs.Simd.{first_chunks};
 ghost use Rattle.block.specs.Block.{block_size};
-ghost use Rattle.log_model.specs.Log.{block, sound, misfit, unsound};
+ghost use Rattle.log_model.specs.Log.{sound, misfit, unsound};
+ghost use Rattle.refusal.specs.Numbers.{number};
 
-use log_block::BLOCK_LEN;
+use log_block::{BLOCK_LEN, Block, is_sound, number_of};
+use refusal::Refusal;
 
-// Block `i`.
-pub fn block_of(log: &[u8], i: usize) -> &[u8]
-    requires { block_size * i + block_size ≤ length log.now }
-    ensures { (result.now ≡ block log.now i) × (length result.now ≡ block_size) }
+// Whether each of some blocks is sound, and their numbers rise by one.
+fn is_rising(blocks: &[Block]) -> bool
+    ensures { result ≡ sound (concat blocks.now) (length blocks.now) }
 {
-    let start = BLOCK_LEN * i;
-    let end = start + BLOCK_LEN;
-    &log[start..end]
+    let follows = |pair: &[Block]| number_of(&pair[0]).checked_add(1) == Some(number_of(&pair[1]));
+    blocks.iter().all(is_sound) && blocks.windows(2).all(follows)
 }
 
-// Whether each of the first `used` blocks is sound, and their numbers rise by one.
-fn is_rising(log: &[u8], used: usize) -> bool
-    requires { block_size * used ≤ length log.now }
-    ensures { (result ≡ sound log.now used) × (result ≡ true → used ≤ 4294967296) }
+// The used blocks: refused 15 where the memory isn't whole blocks, or has fewer than `used`.
+#[tactic(auto, using(log_block::proofs::Chunks::chunks_front))]
+pub fn used_blocks(log: &[u8], used: u64) -> Result<&[Block], Refusal>
+    ensures accepted { IfOk result (λ blocks. (misfit log.now used ≡ false) × (blocks.now ≡ first_chunks block_size used log.now)) }
+    ensures refused { IfErr result (λ r. (misfit log.now used ≡ true) × (number r ≡ 15)) }
 {
-    let mut last: u64 = 0;
-    let mut i: usize = 0;
-    while i < used {
-        let number = log_block::number_of(block_of(log, i));
-        if (i != 0) & (number != last + 1) {
-            return false;
-        }
-        if log_block::is_sound(block_of(log, i)) {
-            last = number;
-            i += 1;
-        } else {
-            return false;
-        }
+    let (blocks, rest) = log.as_chunks::<BLOCK_LEN>();
+    if !rest.is_empty() || (blocks.len() as u64) < used {
+        return Err(Refusal::UnsoundLog);
     }
-    true
+    Ok(&blocks[..used as usize])
 }
 
-// Whether the memory isn't whole blocks, or has fewer than `used`.
-pub fn is_misfit(log: &[u8], used: u64) -> bool
-    ensures { result ≡ misfit log.now used }
+// The used blocks of a sound log: refused 15 where it is not.
+#[tactic(auto, using(crate::proofs::Blocks::cut_sound))]
+pub fn sound_blocks(log: &[u8], used: u64) -> Result<&[Block], Refusal>
+    ensures accepted { IfOk result (λ blocks. (unsound log.now used ≡ false) × (blocks.now ≡ first_chunks block_size used log.now)) }
+    ensures few { IfOk result (λ blocks. used ≤ 4294967296) }
+    ensures refused { IfErr result (λ r. (unsound log.now used ≡ true) × (number r ≡ 15)) }
 {
-    (log.len() % BLOCK_LEN != 0) | (((log.len() / BLOCK_LEN) as u64) < used)
-}
-
-// Whether an add, a power-up or a reading refuses the log, 15.
-pub fn is_unsound(log: &[u8], used: u64) -> bool
-    ensures { (result ≡ unsound log.now used) × (result ≡ false → used ≤ 4294967296) }
-{
-    if is_misfit(log, used) {
-        return true;
+    let blocks = used_blocks(log, used)?;
+    if !is_rising(blocks) {
+        return Err(Refusal::UnsoundLog);
     }
-    if is_rising(log, used as usize) {
-        return false;
-    }
-    true
+    Ok(blocks)
 }

@@ -1,124 +1,177 @@
--- The search in the steps of the functions: while nothing is found the answer is none, and stays so with one sample or one block more
--- that lacks the bit; once something is found, no later sample and no later block changes the answer.
+-- The search in the steps of the functions: while nothing is found the answer is none, and stays so with one block more in which there is
+-- none; once something is found, no later block changes the answer.
 -- Assumes nothing.
-use Rattle.std.specs.Prelude.{if◌then◌else◌}
-use mathlib.Core.Path.{◌≡◌, sym, ◌∙◌}
-use mathlib.Core.Bool.{true, false}
-use mathlib.Core.List.{List, [], ◌∷◌}
+use Rattle.std.proofs.Common.{◌≡◌, ℕ, zero, suc, ◌+◌, ◌-◌, ◌*◌, ◌/◌, ◌≤◌, ◌<◌, ◌↔◌, Bool, true, false, not, ltb, eqb, List, [], length, get_or, take, drop, length-drop, refl, sym, ◌∙◌, add-one, arith, Some, None, ltb-true, ltb-false, le-ltb, eqb-true}
+use Rattle.std.specs.Prelude.{Option as Answer, MatchOption, if◌then◌else◌}
+use Rattle.std.specs.Simd.{first_chunks}
+use Rattle.std.specs.List.{concat}
 use mathlib.Core.Option.{none, some}
-use Prim.Native.Nat.{ℕ, zero, suc, ◌+◌, ◌*◌, ◌/◌, ◌%◌, ◌≤◌, ◌<◌}
-use native.Mathlib.Numerals.{add-one}
-use native.Mathlib.Omega.{arith}
-use lib.Dec.{ltb, eqb}
-use lib.ListN.{length}
-use borrow.Author.Tests.{eqb-true, eqb-false, lt-ltb, le-ltb}
-use Rattle.laws.specs.Bits.{has}
+use borrow.Author.Tests.{lt-ltb, eqb-false}
 use Rattle.laws.specs.Lists.{at, part}
 use Rattle.laws.proofs.Tests.{case}
-use Rattle.block.specs.Block.{block_size, sample_size, count, most_samples, slot, samples_to}
-use Rattle.log_model.specs.Log.{block, total, misfit}
-use Rattle.question.specs.Search.{first_in, passed, first_of_block, first_with, crowded, refused, given, first_told}
+use Rattle.laws.proofs.Lists.{part_at}
+use Rattle.block.specs.Block.{block_size, count, most_samples, room_end, samples_in}
 use Rattle.block.proofs.Blocks.{samples_length}
-use Rattle.question.proofs.EverySample.{first_append, lit_at}
+use Rattle.log_model.specs.Log.{block, total, misfit}
+use Rattle.question.specs.Search.{lit, first_in, FirstIs, passed, first_of_block, first_with, crowded, refused, given, first_told}
+use Rattle.question.proofs.EverySample.{first_is, first_only}
 use Rattle.question.proofs.LeastPosition.{crowded_block, total_few}
+use lib.Seq.{get_or-drop, take-length}
+use Rattle.log_model.proofs.Fits.{fitting}
+use Rattle.log_model.proofs.BlockByBlock.{by_blocks, samples_same, total_more}
+use Rattle.log_calls.proofs.Blocks.{Whole, joined_block, cut_length, cut_same}
+use Rattle.log_first.specs.Meaning.{found}
 
--- ---- counts
-
--- one block more
-pub crowded_next : (log : List ℕ) (i : ℕ) → crowded log i ≡ false → count (block log i) ≤ most_samples → crowded log (i + 1) ≡ false
-unfolding crowded
-crowded_next log i e h = rw (add-one, e, le-ltb most_samples (count (block log i)) h)
-
--- a block that is crowded
-pub crowded_found : (log : List ℕ) (i n : ℕ) → i < n → most_samples < count (block log i) → true ≡ crowded log n
-crowded_found log i n h l = case (crowded log n)
-    (λ t. sym t)
-    (λ t. let k = crowded_block log n i h t in absurd (omega arith))
-
--- so few that a position is below the length of the memory
-pub total_fits : (log : List ℕ) (used i : ℕ) → block_size * used ≤ length log → i < used → crowded log i ≡ false → count (block log i) ≤ most_samples
-    → total log i + count (block log i) ≤ length log
-total_fits log used i h l e few =
-    let less = total_few log i e in
-    omega arith
+same_false : (a b : Bool) → (a ≡ false → b ≡ false) → (b ≡ false → a ≡ false) → a ≡ b
+same_false true true f g = refl
+same_false true false f g = g refl
+same_false false b f g = sym (f refl)
 
 -- ---- one block
 
-module _ (k : ℕ) (small : k < 24) (b : List ℕ) (long : length b ≡ block_size) where
-  -- one sample more that has it not, or has it
-  in_more : (i : ℕ) → i < most_samples → first_in k (samples_to b i) ≡ none
-      → first_in k (samples_to b (suc i)) ≡ (if has (k % 8) (at b (slot i + k / 8)) then some i else none)
-  unfolding samples_to first_in
-  in_more i h e =
-      let z : i + 0 ≡ i = omega arith in
-      first_append k (samples_to b i) (part (slot i) sample_size b ∷ [])
-      ∙ rw (e, samples_length b i, lit_at k small b long i h) (case (has (k % 8) (at b (slot i + k / 8))) (λ t. rw (t, z)) (λ t. rw t))
+-- what the library says of its search of a list
+pub first_said : (k : ℕ) (xs : List (List ℕ)) (r : Answer ℕ) → MatchOption r (FirstIs k xs none) (λ i. FirstIs k xs (some i)) → found r ≡ first_in k xs
+first_said k xs None says = first_only k xs none (first_in k xs) says (first_is k xs)
+first_said k xs (Some i) says = first_only k xs (some i) (first_in k xs) says (first_is k xs)
 
-  pub in_next : (i : ℕ) → i < most_samples → first_in k (samples_to b i) ≡ none → has (k % 8) (at b (slot i + k / 8)) ≡ false → first_in k (samples_to b (i + 1)) ≡ none
-  in_next i h e t = rw add-one (in_more i h e ∙ rw t)
+-- the summary's three bytes, a part of the block
+pub passed_marked : (k : ℕ) (b : List ℕ) → length b ≡ block_size → k < 24 → at b 504 ≡ 1 → not (lit k (part room_end 3 b)) ≡ passed k b
+passed_marked k b long small e = rw (part_at room_end 3 b (omega arith) (k / 8) (omega arith), e)
 
-  in_later : (i n : ℕ) → i < n → first_in k (samples_to b (suc i)) ≡ some i → first_in k (samples_to b n) ≡ some i
-  unfolding samples_to
-  in_later i zero h e = absurd (omega arith)
-  in_later i (suc n) h e = case (eqb i n)
-      (λ t. rw (← eqb-true i n t) e)
-      (λ t. let d = eqb-false i n t in
-      first_append k (samples_to b n) (part (slot n) sample_size b ∷ []) ∙ rw (in_later i n (omega (arith, d)) e))
+-- ---- counts of blocks in a row
 
-  pub in_found : (i n : ℕ) → i < n → n ≤ most_samples → first_in k (samples_to b i) ≡ none → has (k % 8) (at b (slot i + k / 8)) ≡ true
-      → first_in k (samples_to b n) ≡ (if ltb i n then some i else none)
-  in_found i n h l e t = rw (lt-ltb i n h) (in_later i n h (in_more i (omega arith) e ∙ rw t))
+uncrowded : (log : List ℕ) (n : ℕ) → ((i : ℕ) → i < n → count (block log i) ≤ most_samples) → crowded log n ≡ false
+unfolding crowded
+uncrowded log zero few = refl
+uncrowded log (suc n) few =
+    rw (uncrowded log n (λ i h. few i (omega arith)), le-ltb most_samples (count (block log n)) (few n (omega arith)))
 
--- what is answered of a block: the samples before the first with the bit, or all of them
-abbrev pub InBlock : ℕ → List ℕ → ℕ → Type 0
-InBlock k b r = (r ≤ count b) × (first_of_block k b ≡ (if ltb r (count b) then some r else none))
+-- the counts of the first n
+abbrev pub Few : List (List ℕ) → ℕ → Type 0
+Few bs n = (i : ℕ) → i < n → count (get_or bs i []) ≤ most_samples
 
-module _ (k : ℕ) (b : List ℕ) where
-  pub told_passed : passed k b ≡ true → (r : ℕ) → r ≡ count b → InBlock k b r
-  told_passed p r e = rw e (omega arith, rw (p, le-ltb (count b) (count b) (omega arith)))
+few_if : (bs : List (List ℕ)) → Whole bs → (n : ℕ) → n ≤ length bs → crowded (concat bs) n ≡ false → Few bs n
+few_if bs whole n h e i l = rw (← joined_block bs whole i (omega arith)) (crowded_block (concat bs) n i l e)
 
-  pub told_looked : passed k b ≡ false → (n r : ℕ) → n ≡ count b → (r ≤ n) × (first_in k (samples_to b n) ≡ (if ltb r n then some r else none)) → InBlock k b r
-  told_looked p n r e (h, f) = rw p (rw e at h, rw e at f)
+few_then : (bs : List (List ℕ)) → Whole bs → (n : ℕ) → n ≤ length bs → Few bs n → crowded (concat bs) n ≡ false
+few_then bs whole n h few = uncrowded (concat bs) n (λ i l. rw (joined_block bs whole i (omega arith)) (few i l))
 
-  pub told_found : (n r : ℕ) → n ≡ count b → InBlock k b r → r < n → first_of_block k b ≡ some r
-  told_found n r e (h, f) l = f ∙ rw (lt-ltb r (count b) (omega arith))
+module _ (bs : List (List ℕ)) (whole : Whole bs) where
+  pub few_counts : {t : Bool} → (t ≡ false) ↔ Few bs (length bs) → t ≡ crowded (concat bs) (length bs)
+  few_counts {t} p =
+      same_false t (crowded (concat bs) (length bs))
+      (λ q. few_then bs whole (length bs) (omega arith) (p.0 q)) (λ q. p.1 (few_if bs whole (length bs) (omega arith) q))
 
-  pub told_none : (n r : ℕ) → n ≡ count b → InBlock k b r → n ≤ r → first_of_block k b ≡ none
-  told_none n r e (h, f) l = f ∙ rw (le-ltb r (count b) (omega arith))
+  module _ (i : ℕ) (here : i < length bs) (before : crowded (concat bs) i ≡ false) (few : count (get_or bs i []) ≤ most_samples) where
+    few_more : crowded (concat bs) (i + 1) ≡ false
+    few_more = few_then bs whole (i + 1) (omega arith) (λ j h. case (eqb j i)
+        (λ t. rw (eqb-true j i t) few)
+        (λ t. let d = eqb-false j i t in few_if bs whole i (omega arith) before j (omega (arith, d))))
 
--- ---- the log
+    -- only the blocks behind it are left to ask
+    few_behind : crowded (concat (drop (i + 1) bs)) (length (drop (i + 1) bs)) ≡ crowded (concat bs) (length bs)
+    few_behind =
+        let l : length (drop (i + 1) bs) ≡ length bs - (i + 1) = length-drop (i + 1) bs in
+        let at_rest : (j : ℕ) → get_or (drop (i + 1) bs) j [] ≡ get_or bs (i + 1 + j) [] = λ j. get_or-drop (i + 1) bs j [] in
+        let rest : Whole (drop (i + 1) bs) = λ j h. rw at_rest (whole (i + 1 + j) (omega arith)) in
+        same_false (crowded (concat (drop (i + 1) bs)) (length (drop (i + 1) bs))) (crowded (concat bs) (length bs))
+        (λ t. few_then bs whole (length bs) (omega arith) (λ j h. case (ltb i j)
+        (λ q. let m = ltb-true i j q in let z : i + 1 + (j - (i + 1)) ≡ j = omega arith in
+        rw (at_rest (j - (i + 1)), z) at (few_if (drop (i + 1) bs) rest (length (drop (i + 1) bs)) (omega arith) t (j - (i + 1)) (omega arith)))
+        (λ q. let m = ltb-false i j q in few_if bs whole (i + 1) (omega arith) few_more j (omega arith))))
+        (λ t. few_then (drop (i + 1) bs) rest (length (drop (i + 1) bs)) (omega arith)
+        (λ j h. rw at_rest (few_if bs whole (length bs) (omega arith) t (i + 1 + j) (omega arith))))
 
-module _ (log : List ℕ) (k : ℕ) where
-  -- one block more in which there is none
-  pub with_next : (i : ℕ) → first_with log i k ≡ none → first_of_block k (block log i) ≡ none → first_with log (i + 1) k ≡ none
-  unfolding first_with
-  with_next i e none_there = rw (add-one, e, none_there)
+-- ---- the first in blocks in a row
 
-  with_later : (i n p : ℕ) → i < n → first_with log (suc i) k ≡ some p → first_with log n k ≡ some p
-  unfolding first_with
-  with_later i zero p h e = absurd (omega arith)
-  with_later i (suc n) p h e = case (eqb i n)
-      (λ t. rw (← eqb-true i n t) e)
-      (λ t. let d = eqb-false i n t in rw (with_later i n p (omega (arith, d)) e))
+-- a sample that is found stays the first
+with_later : (log : List ℕ) (k i n p : ℕ) → i < n → first_with log (suc i) k ≡ some p → first_with log n k ≡ some p
+unfolding first_with
+with_later log k i zero p h e = absurd (omega arith)
+with_later log k i (suc n) p h e = case (eqb i n)
+    (λ t. rw (← eqb-true i n t) e)
+    (λ t. let d = eqb-false i n t in rw (with_later log k i n p (omega (arith, d)) e))
 
-  -- the first block in which there is one
-  pub with_found : (i n j : ℕ) → i < n → first_with log i k ≡ none → first_of_block k (block log i) ≡ some j → first_with log n k ≡ some (total log i + j)
-  unfolding first_with
-  with_found i n j h e there = with_later i n (total log i + j) h (rw (e, there))
+-- the first of a block's samples is one of them
+first_below : (k : ℕ) (b : List ℕ) {j : ℕ} → some j ≡ first_of_block k b → j < count b
+first_below k b {j} e = case (passed k b)
+    (λ t. absurd (some_none (rw t at e)))
+    (λ t. let d : some j ≡ first_in k (samples_in b) = rw t at e in rw (samples_length b (count b)) at (rw (← d) at (first_is k (samples_in b))).0)
+  where
+    some_none : some j ≡ none → ⊥
+    some_none q = cc
+
+-- what is known once the first i blocks are gone through: their samples are `before`, none has the bit, and no count is above 16
+pub record Gone (bs : List (List ℕ)) (k i before : ℕ) : Type 0 where
+  pub before_is : before ≡ total (concat bs) i
+  pub none_yet : first_with (concat bs) i k ≡ none
+  pub quiet : crowded (concat bs) i ≡ false
+
+-- the next block, of which the count is n
+module _ (bs : List (List ℕ)) (whole : Whole bs) (i : ℕ) (here : i < length bs) {n : ℕ} (counted : n ≡ count (get_or bs i [])) where
+  pub crowded_here : most_samples < n → crowded (concat bs) (length bs) ≡ true
+  crowded_here h = case (crowded (concat bs) (length bs))
+      (λ t. t)
+      (λ t. let l = few_if bs whole (length bs) (omega arith) t i here in absurd (omega arith))
+
+  module _ {k before : ℕ} (gone : Gone bs k i before) (few : n ≤ most_samples) where
+    pub count_fits : before + n ≤ block_size * i + block_size
+    count_fits = let h = total_few (concat bs) i gone.quiet in omega arith
+
+    -- none of its samples has the bit
+    pub gone_on : none ≡ first_of_block k (get_or bs i []) → Gone bs k (i + 1) (before + n)
+    unfolding first_with
+    gone_on e =
+        let m : total (concat bs) (i + 1) ≡ total (concat bs) i + count (get_or bs i []) = rw (add-one, ← joined_block bs whole i here) (total_more (concat bs) i) in
+        record {
+          before_is = omega arith;
+          none_yet = rw (add-one, gone.none_yet, joined_block bs whole i here, ← e);
+          quiet = few_more bs whole i here gone.quiet (rw counted at few);
+        }
+
+    -- the first that has it is the block's sample j
+    module _ {j : ℕ} (first : some j ≡ first_of_block k (get_or bs i [])) where
+      pub position_fits : before + j ≤ block_size * i + block_size
+      position_fits =
+          let h = count_fits in
+          let l = first_below k (get_or bs i []) first in
+          omega arith
+
+      pub found_here : {rest : List (List ℕ)} → rest ≡ take (length bs - (i + 1)) (drop (i + 1) bs)
+          → (if crowded (concat rest) (length rest) then refused 15 else given (some (before + j)))
+          ≡ (if crowded (concat bs) (length bs) then refused 15 else given (first_with (concat bs) (length bs) k))
+      unfolding first_with
+      found_here {rest} e =
+          let behind : rest ≡ drop (i + 1) bs = rw (e, ← length-drop (i + 1) bs) (take-length (drop (i + 1) bs)) in
+          let p : first_with (concat bs) (length bs) k ≡ some (total (concat bs) i + j) =
+          with_later (concat bs) k i (length bs) (total (concat bs) i + j) here (rw (gone.none_yet, joined_block bs whole i here, ← first)) in
+          rw (behind, few_behind bs whole i here gone.quiet (rw counted at few), p, gone.before_is)
 
 -- ---- answers, in the order of the function's tests
 
-module _ (log : List ℕ) (used k : ℕ) where
-  pub misfit_refused : misfit log used ≡ true → refused 15 ≡ first_told log used k
-  misfit_refused e = rw e
+crowded_same : (log t : List ℕ) (n : ℕ) → ((i : ℕ) → i < n → block t i ≡ block log i) → crowded t n ≡ crowded log n
+unfolding crowded
+crowded_same = by_blocks crowded (λ log t. refl) (λ log t n same e. rw (e, same n (omega arith)))
 
-  pub answered : misfit log used ≡ false → k < 24 → (if crowded log used then refused 15 else given (first_with log used k)) ≡ first_told log used k
-  answered e h = case (crowded log used)
-      (λ t. rw (e, t))
-      (λ t. rw (e, t, le-ltb 23 k (omega arith)))
+first_same : (k : ℕ) (log t : List ℕ) (n : ℕ) → ((i : ℕ) → i < n → block t i ≡ block log i) → first_with t n k ≡ first_with log n k
+unfolding first_with
+first_same k = by_blocks (λ log n. first_with log n k) (λ log t. refl)
+    (λ log t n same e. rw (e, samples_same log t n (λ i h. same i (omega arith)), same n (omega arith)))
 
-  pub crowded_first : misfit log used ≡ false → crowded log used ≡ true → refused 15 ≡ first_told log used k
-  crowded_first e t = rw (e, t)
+module _ (log : List ℕ) (used k : ℕ) {bs : List (List ℕ)} (cut : (misfit log used ≡ false) × (bs ≡ first_chunks block_size used log)) where
+  same : (i : ℕ) → i < used → block (concat bs) i ≡ block log i
+  same = cut_same log used cut.1 (let h = (fitting log used cut.0).1 in omega arith)
 
-  pub bit_refused : misfit log used ≡ false → crowded log used ≡ false → 24 ≤ k → refused 17 ≡ first_told log used k
-  bit_refused e t h = rw (e, t, lt-ltb 23 k (omega arith))
+  counts : crowded (concat bs) (length bs) ≡ crowded log used
+  counts = rw (cut_length log used cut.1) (crowded_same log (concat bs) used same)
+
+  pub answered : k < 24 → (if crowded (concat bs) (length bs) then refused 15 else given (first_with (concat bs) (length bs) k)) ≡ first_told log used k
+  answered h =
+      let e : first_with (concat bs) (length bs) k ≡ first_with log used k = rw (cut_length log used cut.1) (first_same k log (concat bs) used same) in
+      rw (counts, e) (case (crowded log used) (λ t. rw (cut.0, t)) (λ t. rw (cut.0, t, le-ltb 23 k (omega arith))))
+
+  pub crowded_first : crowded (concat bs) (length bs) ≡ true → refused 15 ≡ first_told log used k
+  crowded_first t = rw (cut.0, sym counts ∙ t)
+
+  pub bit_refused : crowded (concat bs) (length bs) ≡ false → 24 ≤ k → refused 17 ≡ first_told log used k
+  bit_refused t h = rw (cut.0, sym counts ∙ t, lt-ltb 23 k (omega arith))

@@ -1,24 +1,25 @@
 -- The outcome of the question is the only one that its contract allows.
 -- Assumes nothing.
+use Rattle.std.specs.Prelude.{Option as Answer, Some, None, Result, Ok, Err}
 use mathlib.Core.Path.{◌≡◌, refl, sym, ap, ◌∙◌}
 use mathlib.Core.List.{List}
-use mathlib.Core.Option.{none, some, Option}
 use Prim.Native.Nat.{ℕ}
-use Rattle.question.specs.Search.{Told, refused, given, first_told}
-use Rattle.log_first.specs.Meaning.{first_says}
-use Rattle.log_first.specs.declared.First.{First}
-use Rattle.log_first.specs.declared.First.TheVariants as firsts
+use Rattle.question.specs.Search.{first_told}
+use Rattle.refusal.specs.declared.Refusal.{Refusal}
+use Rattle.refusal.specs.Numbers.{number, says}
+use Rattle.refusal.proofs.Unique.{one_refusal}
+use Rattle.log_first.specs.Meaning.{found}
 
--- the outcome that says it
-abbrev first_of : Told (Option ℕ) → First
-first_of (refused n) = firsts.Refused n
-first_of (given none) = firsts.Never
-first_of (given (some i)) = firsts.At i
+said_same : (x y : Result (Answer ℕ) Refusal) → says found x ≡ says found y → x ≡ y
+said_same (Ok None) (Ok None) e = refl
+said_same (Ok None) (Ok (Some j)) e = cc
+said_same (Ok (Some i)) (Ok None) e = cc
+said_same (Ok (Some i)) (Ok (Some j)) e = cc
+said_same (Ok None) (Err r) e = cc
+said_same (Ok (Some i)) (Err r) e = cc
+said_same (Err q) (Ok None) e = cc
+said_same (Err q) (Ok (Some j)) e = cc
+said_same (Err q) (Err r) e = let d : number q ≡ number r = cc in ap Err (one_refusal q r d)
 
-first_back : (x : First) → first_of (first_says x) ≡ x
-first_back (firsts.At i) = refl
-first_back firsts.Never = refl
-first_back (firsts.Refused n) = refl
-
-pub first_unique : (log : List ℕ) (used k : ℕ) (x y : First) → first_says x ≡ first_told log used k → first_says y ≡ first_told log used k → x ≡ y
-first_unique log used k x y p q = sym (first_back x) ∙ ap first_of (p ∙ sym q) ∙ first_back y
+pub first_unique : (log : List ℕ) (used k : ℕ) (x y : Result (Answer ℕ) Refusal) → says found x ≡ first_told log used k → says found y ≡ first_told log used k → x ≡ y
+first_unique log used k x y p q = said_same x y (p ∙ sym q)

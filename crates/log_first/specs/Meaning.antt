@@ -1,11 +1,7 @@
--- What the answer of `log_first` stands for: the number of a refusal, or Ask 9's position.
+-- What an answer of a position, or none, is in Ask 9's words.
 -- Assumes nothing.
-use Rattle.laws.specs.Words.{ℕ, Option, none, some}
-use Rattle.question.specs.Search.{Told, refused, given}
-use Rattle.log_first.specs.declared.First as first
-use Rattle.log_first.specs.declared.First.TheVariants as firsts
+use Rattle.std.specs.Prelude.{Option as Answer, Some, None}
+use Rattle.laws.specs.Words.{Option, none, some}
 
-abbrev pub first_says : first.First → Told (Option ℕ)
-first_says (firsts.At n) = given (some n)
-first_says firsts.Never = given none
-first_says (firsts.Refused n) = refused n
+abbrev pub found : {A : Type 0} → Answer A → Option A
+found = elim [ None ↦ none | Some a ↦ some a ]

@@ -3,135 +3,116 @@
 // To be seen in the code, and not proved: of a block that is passed over three bytes are looked at.
 #![tactic(auto)]
 
-ghost use Rattle.std.specs.Prelude.{◌≡◌, false, ◌*◌, ◌≤◌, ◌<◌, ltb, length, if◌then◌else◌};
-ghost use Rattle.std.proofs.Math.Option.{none, some};
-ghost use Rattle.laws.specs.Bits.{has};
-ghost use Rattle.block.specs.Block.{block_size, count, most_samples, samples_to};
-ghost use Rattle.log_model.specs.Log.{block};
-ghost use Rattle.question.specs.Search.{first_in, passed, first_of_block, first_with, crowded, refused, given, first_told};
-ghost use Rattle.log_first.specs.Meaning.{first_says};
+ghost use Rattle.std.specs.Prelude.{◌≡◌, true, false, ◌≤◌, ◌<◌, length, OnOk, IfErr, if◌then◌else◌};
+ghost use Rattle.std.specs.List.{concat};
+ghost use Rattle.laws.specs.Words.{some};
+ghost use Rattle.block.specs.Block.{count, most_samples};
+ghost use Rattle.question.specs.Search.{lit, first_in, passed, first_of_block, first_with, crowded, refused, given, first_told};
+ghost use Rattle.refusal.specs.Numbers.{number, says};
+ghost use Rattle.log_first.specs.Meaning.{found};
 
-use log_block::{MARK_AT, ROOM_AT, ROOM_END, SAMPLE_LEN};
+use log_block::{Block, MARK_AT, MOST_SAMPLES, ROOM_END, Sample, count_of, samples_of};
+use refusal::Refusal;
 
-// The answer: the position of the first sample with the bit; or that no sample that is looked at has it; or the refusal.
+// ---- a status bit
+
+const STATUS_BITS: u64 = 24;
+
+// A bit of the three status bytes: 8 times its byte, 0 to 2, plus the bit.
 #[derive(Clone, Copy)]
-pub enum First {
-    At(u64),
-    Never,
-    Refused(u8),
+struct StatusBit {
+    number: u64,
+    ghost small: { number < 24 },
+}
+
+impl StatusBit {
+    // Whether some bytes that begin with three status bytes have it.
+    fn is_in(self, bytes: &[u8]) -> bool
+        requires { 3 ≤ length bytes.now }
+        ensures { result ≡ lit self.number bytes.now }
+    {
+        (bytes[(self.number / 8) as usize] >> (self.number % 8)) % 2 == 1
+    }
 }
 
 // ---- counts
 
-// Whether one of the first `used` blocks has a count above 16, where none of the first `from` has.
-fn is_crowded(log: &[u8], from: usize, used: usize) -> bool
-    requires { (block_size * used ≤ length log.now) × (from ≤ used) × (crowded log.now from ≡ false) }
-    ensures { result ≡ crowded log.now used }
+// Refused 15 where one of some blocks has a count above 16.
+fn check_counts(blocks: &[Block]) -> Result<(), Refusal>
+    ensures accepted { OnOk result (crowded (concat blocks.now) (length blocks.now) ≡ false) }
+    ensures refused { IfErr result (λ r. (crowded (concat blocks.now) (length blocks.now) ≡ true) × (number r ≡ 15)) }
 {
-    let mut i: usize = from;
-    while i < used {
-        if log_block::MOST_SAMPLES < log_block::count_of(log_calls::walk::block_of(log, i)) {
-            return true;
-        }
-        i += 1;
+    if blocks.iter().any(|block| MOST_SAMPLES < count_of(block)) {
+        return Err(Refusal::UnsoundLog);
     }
-    false
+    Ok(())
 }
 
 // ---- one block
 
-// Whether a byte has bit `n`, the lowest being bit 0.
-fn has_bit(byte: u8, n: u8) -> bool
-    requires { n < 8 }
-    ensures { result ≡ has n byte }
-{
-    (byte >> n) % 2 == 1
-}
-
 // Whether its summary excludes the bit.
-fn is_passed(block: &[u8], bit: u64) -> bool
-    requires { (length block.now ≡ block_size) × (bit < 24) }
-    ensures { result ≡ passed bit block.now }
+#[tactic(auto, using(crate::proofs::Laws::passed_marked))]
+fn is_passed(block: &Block, bit: StatusBit) -> bool
+    ensures { result ≡ passed bit.number block.now }
 {
-    let summary = block[ROOM_END + (bit / 8) as usize];
-    (block[MARK_AT] == 1) & !has_bit(summary, (bit % 8) as u8)
+    (block[MARK_AT] == 1) && !bit.is_in(&block[ROOM_END..MARK_AT])
 }
 
-// How many of its first `n` samples come before the first with the bit: `n` where none has it.
-fn before_first(block: &[u8], bit: u64, n: usize) -> usize
-    requires { (length block.now ≡ block_size) × (bit < 24) × (n ≤ most_samples) }
-    ensures { (result ≤ n) × (first_in bit (samples_to block.now n) ≡ (if ltb result n then some result else none)) }
+// The first of some samples that has the bit.
+fn first_among(samples: &[Sample], bit: StatusBit) -> Option<usize>
+    ensures { found result ≡ first_in bit.number samples.now }
 {
-    let mut k: usize = 0;
-    while k < n {
-        let status = block[ROOM_AT + SAMPLE_LEN * k + (bit / 8) as usize];
-        if has_bit(status, (bit % 8) as u8) {
-            return k;
-        }
-        k += 1;
-    }
-    n
+    samples.iter().position(|sample| bit.is_in(sample))
 }
 
-// The same of all its samples, by its count alone where its summary excludes the bit.
-fn in_block(block: &[u8], bit: u64) -> usize
-    requires { (length block.now ≡ block_size) × (bit < 24) × (count block.now ≤ most_samples) }
-    ensures { (result ≤ count block.now) × (first_of_block bit block.now ≡ (if ltb result (count block.now) then some result else none)) }
+// The first of a block's samples that has it: by its count alone, none, where its summary excludes the bit.
+fn in_block(block: &Block, bit: StatusBit) -> Option<usize>
+    requires { count block.now ≤ most_samples }
+    ensures { found result ≡ first_of_block bit.number block.now }
 {
-    let count = log_block::count_of(block) as usize;
     if is_passed(block, bit) {
-        return count;
+        return None;
     }
-    before_first(block, bit, count)
+    first_among(samples_of(block), bit)
 }
 
 // ---- the question
 
-// The answer once a sample is found in block `i`: the blocks behind it are still asked for their counts.
-fn found(log: &[u8], i: usize, used: usize, position: u64) -> First
-    requires { (block_size * used ≤ length log.now) × (i < used) × (crowded log.now i ≡ false) × (count (block log.now i) ≤ most_samples) }
-    ensures { first_says result ≡ (if crowded log.now used then refused 15 else given (some position)) }
+// The answer once a sample is found: the blocks behind its own are still asked for their counts.
+fn found_at(position: u64, behind: &[Block]) -> Result<Option<u64>, Refusal>
+    ensures { says found result ≡ (if crowded (concat behind.now) (length behind.now) then refused 15 else given (some position)) }
 {
-    if is_crowded(log, i + 1, used) {
-        return First::Refused(15);
-    }
-    First::At(position)
+    check_counts(behind)?;
+    Ok(Some(position))
 }
 
-// Goes over the used blocks.
-fn search(log: &[u8], used: usize, bit: u64) -> First
-    requires { (block_size * used ≤ length log.now) × (bit < 24) }
-    ensures { first_says result ≡ (if crowded log.now used then refused 15 else given (first_with log.now used bit)) }
+// The first sample of some blocks that has the bit; refused 15 where one of them has a count above 16.
+fn search(blocks: &[Block], bit: StatusBit) -> Result<Option<u64>, Refusal>
+    ensures { says found result ≡ (if crowded (concat blocks.now) (length blocks.now) then refused 15 else given (first_with (concat blocks.now) (length blocks.now) bit.number)) }
 {
-    let mut before: u64 = 0;
-    let mut i: usize = 0;
-    while i < used {
-        let count = log_block::count_of(log_calls::walk::block_of(log, i));
-        if log_block::MOST_SAMPLES < count {
-            return First::Refused(15);
+    let mut before = 0;
+    for (i, block) in blocks.iter().enumerate() {
+        let count = count_of(block);
+        if MOST_SAMPLES < count {
+            return Err(Refusal::UnsoundLog);
         }
-        let k = in_block(log_calls::walk::block_of(log, i), bit);
-        if k < count as usize {
-            return found(log, i, used, before + k as u64);
+        if let Some(k) = in_block(block, bit) {
+            let position = before + k as u64;
+            return found_at(position, &blocks[i + 1..]);
         }
-        before += count as u64;
-        i += 1;
+        before += u64::from(count);
     }
-    First::Never
+    Ok(None)
 }
 
 // The first sample that has a status bit: 8 times its byte, 0 to 2, plus the bit.
-pub fn first_with(log: &[u8], used: u64, bit: u64) -> First
-    ensures { first_says result ≡ first_told log.now used bit }
+pub fn first_with(log: &[u8], used: u64, bit: u64) -> Result<Option<u64>, Refusal>
+    ensures { says found result ≡ first_told log.now used bit }
 {
-    if log_calls::walk::is_misfit(log, used) {
-        return First::Refused(15);
+    let blocks = log_calls::walk::used_blocks(log, used)?;
+    if bit < STATUS_BITS {
+        return search(blocks, StatusBit { number: bit });
     }
-    if bit < 24 {
-        return search(log, used as usize, bit);
-    }
-    if is_crowded(log, 0, used as usize) {
-        return First::Refused(15);
-    }
-    First::Refused(17)
+    check_counts(blocks)?;
+    Err(Refusal::NoSuchSample)
 }

@@ -8,100 +8,87 @@ ghost use Rattle.laws.specs.Tests.{covers};
 ghost use Rattle.laws.specs.Lists.{at, patch};
 ghost use Rattle.moves.specs.Copied.{copied};
 
-// Copies `n` bytes of `src` from `from` on to the places of `dst` from `to` on.
-pub fn copy(dst: &mut [u8], to: usize, src: &[u8], from: usize, n: usize)
-    requires { (to + n ≤ length dst.old) × (from + n ≤ length src.now) }
-    ensures { dst.new ≡ patch to n (λ j. at src.now (from + j)) dst.old }
+// Copies `src` to the places of `dst` from `to` on. Not by `copy_from_slice`: that is a call of C's `memmove`, and the library asks for nothing
+// but `memset`.
+pub fn copy(dst: &mut [u8], to: usize, src: &[u8])
+    requires { to + length src.now ≤ length dst.old }
+    ensures { dst.new ≡ patch to (length src.now) (at src.now) dst.old }
 {
-    for k in 0..n {
-        dst[to + k] = src[from + k];
+    for (k, byte) in src.iter().enumerate() {
+        dst[to + k] = *byte;
     }
 }
 
-// Puts `v` at the `n` places of `dst` from `to` on.
+// Puts `v` at the `n` places of `dst` from `to` on: not at a slice, since the contract says what of all of `dst` is replaced.
 pub fn fill(dst: &mut [u8], to: usize, n: usize, v: u8)
     requires { to + n ≤ length dst.old }
     ensures { dst.new ≡ patch to n (λ j. v) dst.old }
 {
-    for k in 0..n {
-        dst[to + k] = v;
-    }
+    let end = to + n;
+    dst[to..end].fill(v);
 }
 
-// Adds to the `n` places of `dst` from `to` on the bits of the first bytes of `src`.
-pub fn join(dst: &mut [u8], to: usize, src: &[u8], n: usize)
-    requires { (to + n ≤ length dst.old) × (n ≤ length src.now) }
-    ensures { dst.new ≡ patch to n (λ j. bit_or (at dst.old (to + j)) (at src.now j)) dst.old }
+// Adds the bits of `src` to the places of `dst` from `to` on.
+pub fn join(dst: &mut [u8], to: usize, src: &[u8])
+    requires { to + length src.now ≤ length dst.old }
+    ensures { dst.new ≡ patch to (length src.now) (λ j. bit_or (at dst.old (to + j)) (at src.now j)) dst.old }
 {
-    for k in 0..n {
-        dst[to + k] = dst[to + k] | src[k];
+    for (k, byte) in src.iter().enumerate() {
+        dst[to + k] = dst[to + k] | *byte;
     }
 }
 
-// ---- two runs of numbers, as of addresses, and what they have in common
+// ---- runs of numbers, as of addresses, and what two of them have in common
 
-// What of the `n` numbers from `a` on another run has: how many come before it, and how many it is.
-#[derive(Clone, Copy)]
+// `many` numbers in a row from `first` on, none above 255.
+#[derive(Clone, Copy, Debug, PartialEq, Eq)]
+pub struct Run {
+    pub first: usize,
+    pub many: usize,
+    ghost fits: { first + many ≤ 256 },
+}
+
+// What of a run another has: how many of its numbers come before it, and how many it is.
+#[derive(Clone, Copy, Debug, PartialEq, Eq)]
 pub struct Part {
     pub skip: usize,
     pub many: usize,
 }
 
-// The later of two numbers.
-fn later(a: usize, b: usize) -> usize
-    ensures { result ≡ max a b }
-{
-    if a < b { b } else { a }
-}
-
-// The sooner of two numbers.
-fn sooner(a: usize, b: usize) -> usize
-    ensures { result ≡ min a b }
-{
-    if a < b { a } else { b }
-}
-
-// How many numbers there are from `a` on before `b`.
-fn between(a: usize, b: usize) -> usize
-    ensures { result ≡ b - a }
-{
-    if a < b { b - a } else { 0 }
-}
-
-// The other run is the `m` numbers from `b` on.
-pub fn part_of(a: usize, n: usize, b: usize, m: usize) -> Part
-    requires { (a + n ≤ 256) × (b + m ≤ 256) }
-    ensures { (result.skip ≡ max a b - a) × (result.many ≡ min (a + n) (b + m) - max a b) }
-{
-    let first = later(a, b);
-    Part {
-        skip: first - a,
-        many: between(first, sooner(a + n, b + m)),
+impl Run {
+    // What of it `other` has.
+    pub fn part(self, other: Run) -> Part
+        ensures { (result.skip ≡ max self.first other.first - self.first) × (result.many ≡ min (self.first + self.many) (other.first + other.many) - max self.first other.first) }
+    {
+        let first = self.first.max(other.first);
+        let end = (self.first + self.many).min(other.first + other.many);
+        Part {
+            skip: first - self.first,
+            many: end.saturating_sub(first),
+        }
     }
 }
 
-// The front of `out` stands for the `n` numbers from `a` on, the places of `src` from `from` on for the `m` from `b` on: copies what both
-// have.
-pub fn copy_part(out: &mut [u8], a: usize, n: usize, src: &[u8], from: usize, b: usize, m: usize)
-    requires { (a + n ≤ 256) × (b + m ≤ 256) × (n ≤ length out.old) × (from + m ≤ length src.now) }
-    ensures { out.new ≡ patch 0 n (λ j. copied src.now from b m (a + j) (at out.old j)) out.old }
+// The front of `out` stands for the numbers of `shown`, the places of `src` from `from` on for those of `held`: copies what
+// both have. Not a slice of `src`: the contract speaks of the places of all of it, as its callers do.
+pub fn copy_part(out: &mut [u8], shown: Run, src: &[u8], from: usize, held: Run)
+    requires { (shown.many ≤ length out.old) × (from + held.many ≤ length src.now) }
+    ensures { out.new ≡ patch 0 shown.many (λ j. copied src.now from held.first held.many (shown.first + j) (at out.old j)) out.old }
 {
-    let part = part_of(a, n, b, m);
-    let many = part.many;
+    let Part { skip, many } = shown.part(held);
     if many != 0 {
-        let skip = part.skip;
-        copy(out, skip, src, from + (a + skip - b), many);
+        let start = from + (shown.first + skip - held.first);
+        copy(out, skip, &src[start..start + many]);
     }
 }
 
-// The places of `dst` from `to` on stand for the `m` numbers from `b` on: puts `v` where the `n` from `a` on have one.
-pub fn fill_part(dst: &mut [u8], to: usize, b: usize, m: usize, a: usize, n: usize, v: u8)
-    requires { (b + m ≤ 256) × (a + n ≤ 256) × (to + m ≤ length dst.old) }
-    ensures { dst.new ≡ patch to m (λ k. if covers a n (b + k) then v else at dst.old (to + k)) dst.old }
+// The places of `dst` from `to` on stand for the numbers of `held`: puts `v` where `run` has one.
+pub fn fill_part(dst: &mut [u8], to: usize, held: Run, run: Run, v: u8)
+    requires { to + held.many ≤ length dst.old }
+    ensures { dst.new ≡ patch to held.many (λ k. if covers run.first run.many (held.first + k) then v else at dst.old (to + k)) dst.old }
 {
-    let part = part_of(b, m, a, n);
-    let many = part.many;
+    let Part { skip, many } = held.part(run);
     if many != 0 {
-        fill(dst, to + part.skip, many, v);
+        fill(dst, to + skip, many, v);
     }
 }

@@ -1,3 +1,4 @@
 pub mod Identity
 pub mod Quantities
+pub mod Trimmed
 pub mod Unique

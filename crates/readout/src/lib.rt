@@ -1,90 +1,97 @@
-// Identity, monitors and limits: the calls that only read. Nothing need be checked first: each call refuses what it cannot take.
+// Identity, monitors and limits: the calls that only read. Nothing need be checked first: each call refuses what it cannot take. A field, a
+// monitor and a quantity come as the numbers that C says.
 // Proved: what each call answers is, for every input, the model's (document 01, "Identity, monitors, limits").
 #![tactic(auto)]
 
-ghost use Rattle.std.specs.Prelude.{◌≡◌, ◌<◌, ◌≤◌, length};
-ghost use Rattle.model.specs.Map.{page_size, state_size};
+ghost use Rattle.std.specs.Prelude.{◌≡◌, IfOk, IfErr, MatchResult};
 ghost use Rattle.model.specs.Refusals.{identity_refusal};
-ghost use Rattle.model.specs.Readout.{field_start, field_length, limits};
+ghost use Rattle.model.specs.Readout.{field_start, field_length, measured, limits};
 ghost use Rattle.model.specs.Bytes.{memory_of};
-ghost use Rattle.model.specs.Outcomes.{Located, Viewed, monitor_told, limits_told};
-ghost use Rattle.readout.specs.Meaning.{four, monitor_says, limits_say};
+ghost use Rattle.model.specs.Outcomes.{Located, Viewed, given, monitor_told, limits_told};
+ghost use Rattle.refusal.specs.Numbers.{number, number_of, says};
+ghost use Rattle.alarms.specs.Decoded.{quantity_number, meant};
+ghost use Rattle.readout.specs.Meaning.{page_number, field_number, four, monitor_says};
+
+use address::{STATE_LEN, State};
+use alarms::Quantity;
+use fields::Field;
+use refusal::Refusal;
+use units::Monitor;
 
 mod fields;
 mod units;
 
 // ---- identity
 
-// Where an identity field lies: its page (1 live, 2 factory), where it starts there, and its length; these three are 0 where it is refused.
+// The page that an identity field is taken from.
+#[derive(Clone, Copy, PartialEq, Eq)]
+pub enum Page {
+    Live = 1,
+    Factory = 2,
+}
+
+impl From<Page> for u8 {
+    ghost from_gives = { λ page n. n ≡ page_number page };
+
+    fn from(page: Page) -> u8 {
+        page as u8
+    }
+}
+
+// Where an identity field lies: its page, where it starts there, and its length.
 #[derive(Clone, Copy)]
 pub struct Found {
-    pub refusal: u8,
-    pub page: u8,
+    pub page: Page,
     pub start: u8,
     pub length: u8,
 }
 
-fn nowhere(refusal: u8) -> Found
-    ensures { (result.refusal ≡ refusal) × (result.page ≡ 0) × (result.start ≡ 0) × (result.length ≡ 0) }
+// A field of a sound page.
+fn found_in(page: Page, bytes: &codes::Page, field: Field) -> Found
+    ensures { (result.page ≡ page) × (result.start ≡ field_start (field_number field)) × (result.length ≡ field_length bytes.now (field_number field)) }
 {
     Found {
-        refusal,
-        page: 0,
-        start: 0,
-        length: 0,
+        page,
+        start: field.start(),
+        length: field.length_in(bytes),
     }
 }
 
-// A field of a sound page, which has this number.
-fn found_in(page: &[u8], number: u8, field: u64) -> Found
-    requires { (length page.now ≡ page_size) × (1 ≤ field) × (field ≤ 6) }
-    ensures { (result.refusal ≡ 0) × (result.page ≡ number) × (result.start ≡ field_start field) × (result.length ≡ field_length page.now field) }
+// The place of an identity field.
+#[tactic(auto, using(crate::proofs::Identity::live_place, crate::proofs::Identity::factory_place))]
+pub fn identity_place(live: &[u8], factory: &[u8], field: u64) -> Result<Found, Refusal>
+    ensures accepted { IfOk result (λ f. Located live.now factory.now field 0 (page_number f.page) f.start f.length) }
+    ensures refused { IfErr result (λ r. Located live.now factory.now field (number r) 0 0 0) }
 {
-    Found {
-        refusal: 0,
-        page: number,
-        start: fields::start_of(field),
-        length: fields::length_of(page, field),
+    let field = Field::try_from(field)?;
+    if let Some(page) = fields::sound(live) {
+        return Ok(found_in(Page::Live, page, field));
     }
+    let page = fields::sound(factory).ok_or(Refusal::NoSoundPage)?;
+    Ok(found_in(Page::Factory, page, field))
 }
 
-// The place of an identity field, as numbers.
-pub fn identity_place(live: &[u8], factory: &[u8], field: u64) -> Found
-    ensures { Located live.now factory.now field result.refusal result.page result.start result.length }
+// Whether an identity field is refused, and why.
+pub fn identity_refusal(live: &[u8], factory: &[u8], field: u64) -> Result<(), Refusal>
+    ensures { number_of result ≡ identity_refusal live.now factory.now field }
 {
-    if (field < 1) | (6 < field) {
-        return nowhere(12);
-    }
-    if fields::is_sound(live) {
-        return found_in(live, 1, field);
-    }
-    if fields::is_sound(factory) {
-        return found_in(factory, 2, field);
-    }
-    nowhere(11)
-}
-
-// The refusal of an identity field, or 0.
-pub fn identity_refusal(live: &[u8], factory: &[u8], field: u64) -> u8
-    ensures { result ≡ identity_refusal live.now factory.now field }
-{
-    identity_place(live, factory, field).refusal
+    identity_place(live, factory, field)?;
+    Ok(())
 }
 
 // The identity field itself, a part of the page it came from; empty where it is refused.
 pub fn identity_view<'a>(live: &'a [u8], factory: &'a [u8], field: u64) -> &'a [u8]
     ensures { Viewed live.entry factory.entry field result }
 {
-    let f = identity_place(live, factory, field);
-    let start = f.start as usize;
-    let end = start + f.length as usize;
-    if f.page == 1 {
-        return &live[start..end];
+    let Ok(found) = identity_place(live, factory, field) else {
+        return &live[..0];
+    };
+    let start = usize::from(found.start);
+    let end = start + usize::from(found.length);
+    match found.page {
+        Page::Live => &live[start..end],
+        Page::Factory => &factory[start..end],
     }
-    if f.page == 2 {
-        return &factory[start..end];
-    }
-    &live[..0]
 }
 
 // ---- monitors
@@ -97,30 +104,39 @@ pub enum Monitored {
     Milliwatts(f64),
     Milliamperes(f64),
     Nothing,
-    Refused(u8),
+    Refused(Refusal),
+}
+
+// A value of a quantity.
+fn shown(q: Quantity, x: f64) -> Monitored
+    ensures { monitor_says result ≡ given (measured (meant q).kind x) }
+{
+    match q {
+        Quantity::Temperature => Monitored::Degrees(x),
+        Quantity::Supply => Monitored::Volts(x),
+        Quantity::RxPower | Quantity::TxPower => Monitored::Milliwatts(x),
+        Quantity::TxBias => Monitored::Milliamperes(x),
+    }
+}
+
+// What monitor `number` answers, or why it is refused.
+#[tactic(auto, unfolding(model::specs::Readout::monitor))]
+fn answered(state: &[u8], number: u64) -> Result<Monitored, Refusal>
+    ensures { MatchResult result (λ m. monitor_says m ≡ monitor_told state.now number) (λ r. monitor_says (Monitored.Refused r) ≡ monitor_told state.now number) }
+{
+    let state = state.as_array::<STATE_LEN>().ok_or(Refusal::StateSize)?;
+    let monitor = Monitor::try_from(number)?;
+    if monitor.is_unmeasured(state) {
+        return Ok(Monitored::Nothing);
+    }
+    Ok(shown(monitor.quantity, monitor.value(state)))
 }
 
 // Monitor `number`, 0 to 13 in sample order.
 pub fn monitor(state: &[u8], number: u64) -> Monitored
     ensures { monitor_says result ≡ monitor_told state.now number }
 {
-    if state.len() != address::STATE_LEN {
-        return Monitored::Refused(1);
-    }
-    if 13 < number {
-        return Monitored::Refused(13);
-    }
-    let q = units::quantity_of(number);
-    if units::is_unmeasured(state, q) {
-        return Monitored::Nothing;
-    }
-    let x = units::value_at(state, q, units::stored_at(number));
-    match q {
-        0 => Monitored::Degrees(x),
-        1 => Monitored::Volts(x),
-        3 => Monitored::Milliamperes(x),
-        _ => Monitored::Milliwatts(x),
-    }
+    answered(state, number).unwrap_or_else(Monitored::Refused)
 }
 
 // ---- limits
@@ -134,35 +150,22 @@ pub struct FourLimits {
     pub low_warning: f64,
 }
 
-// What the limits call answers.
-#[derive(Clone, Copy)]
-pub enum Limited {
-    Given(FourLimits),
-    Refused(u8),
-}
-
-fn limits_of(state: &[u8], q: u64) -> FourLimits
-    requires { (length state.now ≡ state_size) × (q < 5) }
-    ensures { four result ≡ limits (memory_of state.now) q }
+fn limits_of(state: &State, q: Quantity) -> FourLimits
+    ensures { four result ≡ limits (memory_of state.now) (quantity_number q) }
 {
-    let i = units::thresholds_at(q);
+    let [high_alarm, low_alarm, high_warning, low_warning] = alarms::limits_at(state, q);
     FourLimits {
-        high_alarm: units::value_at(state, q, i),
-        low_alarm: units::value_at(state, q, i + 2),
-        high_warning: units::value_at(state, q, i + 4),
-        low_warning: units::value_at(state, q, i + 6),
+        high_alarm: units::in_unit(q, high_alarm),
+        low_alarm: units::in_unit(q, low_alarm),
+        high_warning: units::in_unit(q, high_warning),
+        low_warning: units::in_unit(q, low_warning),
     }
 }
 
 // The limits of quantity 0 temperature, 1 supply, 2 Rx power, 3 bias, 4 Tx power.
-pub fn limits(state: &[u8], quantity: u64) -> Limited
-    ensures { limits_say result ≡ limits_told state.now quantity }
+pub fn limits(state: &[u8], quantity: u64) -> Result<FourLimits, Refusal>
+    ensures { says four result ≡ limits_told state.now quantity }
 {
-    if state.len() != address::STATE_LEN {
-        return Limited::Refused(1);
-    }
-    if 4 < quantity {
-        return Limited::Refused(13);
-    }
-    Limited::Given(limits_of(state, quantity))
+    let state = state.as_array::<STATE_LEN>().ok_or(Refusal::StateSize)?;
+    Ok(limits_of(state, Quantity::try_from(quantity)?))
 }

@@ -11,16 +11,11 @@ use Rattle.laws.specs.Tests.{covers}
 use Rattle.laws.specs.Lists.{at, patch}
 use Rattle.laws.proofs.Tests.{covers_in, covers_below}
 use Rattle.laws.proofs.Fronts.{front_over}
-use Rattle.ports.specs.Ports.{caller, read}
-use Rattle.ports.specs.Modules.{base}
-use Rattle.ports.specs.Bytes.{record_of, refusal_of}
-use Rattle.ports.specs.Outcomes.{ReadDone}
-use Rattle.ports.proofs.Left as left
+use Rattle.ports.specs.Bytes.{record_of}
 use Rattle.moves.specs.Copied.{copied}
 use Rattle.both.proofs.Laws.{own_byte}
 use Rattle.eight.specs.Tables.{flags, masks, mask_of, record_size}
 use Rattle.eight.specs.Module.{seen, cleared, eight}
-use Rattle.eight.proofs.Lawful.{lawful}
 use Rattle.eight_module.proofs.Laws.{two_runs, second_run}
 
 -- zeros, over them the masks, over them the flags
@@ -50,10 +45,3 @@ clear_both s t u b a n room e d =
     (λ k l. let y : 28 + k - 28 ≡ k = omega arith in let w : b + 28 + k ≡ b + (28 + k) = omega arith in
     rw (le-ltb (28 + k) 14 (omega arith), covers_in 28 14 (28 + k) (omega arith) (omega arith), y, second_run s t b (λ k. if covers a n (3 + k) then 0 else at s (b + k)) room e₁ k l, w, lt-ltb (28 + k) 42 (omega arith)))
     (λ k l h. rw (le-ltb k 14 l, covers_below 28 14 k h, lt-ltb k 42 (omega arith)))
-
--- an accepted read, with the caller's record at b
-pub read_done : (s : List ℕ) (n a k : ℕ) (out : List ℕ) → refusal_of eight s (read n a k out) ≡ 0 → (b c : ℕ) (t shown : List ℕ) → b ≡ base eight (caller n)
-    → t ≡ patch (base eight (caller n)) record_size (cleared a k (record_of eight s (base eight (caller n)))) s → c ≡ eight.count (record_of eight t b)
-    → shown ≡ patch 0 k (λ j. seen (record_of eight s b) (a + j)) out → ReadDone eight s n a k out 0 c t shown
-read_done s n a k out taken b c t shown is e =
-    left.read_done eight lawful s n a k out taken b c record_size t shown is (omega arith) (λ i l h. absurd (omega arith)) (rw (← is) at e)

@@ -1,19 +1,26 @@
--- What a sample leaves, place by place: below 14 its conditions, above that both records with its conditions raised and its onsets marked;
--- so the bytes are those of the definitions.
+-- What `from_fn` makes. What a sample leaves, place by place: below 14 its conditions, above that both records with its conditions raised
+-- and its onsets marked; so the bytes are those of the definitions.
 -- Assumes nothing.
-use Rattle.std.specs.Prelude.{if◌then◌else◌}
+use Rattle.std.specs.Prelude.{if◌then◌else◌, Option, None, Some, MatchOption}
+use Rattle.std.specs.Option.{ok_or}
+use Rattle.std.specs.Borrow.{Bor}
 use mathlib.Core.Path.{◌≡◌, sym, ap, ◌∙◌}
-use mathlib.Core.List.{List}
-use Prim.Native.Nat.{ℕ, ◌+◌, ◌-◌, ◌≤◌, ◌<◌}
+use mathlib.Core.Logic.{◌≢◌}
+use mathlib.Core.Bool.{not}
+use mathlib.Core.List.{List, [], ◌∷◌}
+use Prim.Native.Nat.{ℕ, zero, suc, ◌+◌, ◌-◌, ◌≤◌, ◌<◌}
 use native.Mathlib.Omega.{arith}
 use lib.Bits.{bit_or, bit_and, bit_xor, or_zero_r}
 use lib.Dec.{eqb, ltb}
-use lib.ListN.{length, set, replicate, get_or-replicate}
-use borrow.Author.Tests.{eqb-true, eqb-false, ltb-true, ltb-false, lt-ltb, le-ltb}
-use Rattle.laws.specs.Tests.{covers}
+use lib.ListN.{length, replicate, length-replicate, get_or-replicate}
+use borrow.Author.Tests.{eqb-true, eqb-false, eq-eqb, ne_eqb, ltb-true, ltb-false, lt-ltb, le-ltb}
+use denote.Param.Members.{Mut}
+use Rattle.std.specs.Array.{IsFromFnResultFrom, IsFromFnResult, IsWholeChunk}
+use Rattle.std.specs.Iterator.{ActsAs}
+use Rattle.laws.specs.Tests.{first_of, covers}
 use Rattle.laws.specs.Lists.{at, table, patch}
 use Rattle.laws.proofs.Tests.{case, covers_in, covers_below, covers_true}
-use Rattle.laws.proofs.Lists.{table_at, is_table, patch_length, patch_at, patch_in, patch_below, patch_above, patch_else, patch_more, is_patch}
+use Rattle.laws.proofs.Lists.{table_at, is_table, patch_length, patch_at, patch_in, patch_below, patch_above, patch_else, is_patch}
 use Rattle.laws.proofs.Fronts.{front_in}
 use Rattle.ports.specs.Ports.{Port, operator, recorder, Places, sample}
 use Rattle.ports.specs.Modules.{base, state_size}
@@ -26,77 +33,95 @@ use Rattle.ports.proofs.Taken.{sample_sizes}
 use Rattle.eight.specs.Tables.{record_size}
 use Rattle.eight.specs.Module.{conditions, onset, raised, eight}
 use Rattle.eight.proofs.Lawful.{lawful}
-use Rattle.eight_module.specs.Joined.{led, joined}
+use Rattle.refusal.specs.Numbers.{number_of}
+use Rattle.refusal.specs.declared.Refusal.TheVariants.{SampleSize}
+use Rattle.eight_module.specs.Joined.{joined}
 use Rattle.eight_module.proofs.Laws.{two_runs, second_run}
 
--- ---- fourteen bytes behind two zeros
+-- ---- refusal 8, as `as_array` finds the sample's length
 
--- sixteen zeros, of which k behind the first two are replaced
-abbrev pub filled : ℕ → (ℕ → ℕ) → List ℕ
-filled k f = patch 2 k f (replicate 16 0)
+pub sized : (x : List ℕ) (n : ℕ) (o : Option (Bor (List ℕ))) → MatchOption o (length x ≢ n) (λ y. IsWholeChunk x y.now n)
+    → number_of (ok_or o SampleSize) ≡ first_of ((8, not (eqb (length x) n)) ∷ [])
+sized x n None d = rw (ne_eqb (length x) n d)
+sized x n (Some y) d = rw (eq-eqb (length x) n d.long)
 
-pub filled_more : (f : ℕ → ℕ) (k : ℕ) → k < 14 → set (filled k f) (k + 2) (f k) ≡ filled (k + 1) f
-filled_more f k h = let z : 2 + k ≡ k + 2 = omega arith in rw z at (patch_more 2 f (replicate 16 0) k (lt_of z h))
-  where
-    lt_of : 2 + k ≡ k + 2 → k < 14 → 2 + k < 16
-    lt_of z h = omega arith
+-- ---- the elements that a function gives which changes nothing
 
-table_filled : (f : ℕ → ℕ) (t : List ℕ) → t ≡ filled 14 f → t ≡ table 16 (led f)
-table_filled f t d = is_table t 16 (led f) (ap length d ∙ patch_length 2 14 f (replicate 16 0)) (λ i l. rw d (case (ltb i 2)
-    (λ u. rw u (patch_below 2 14 f (replicate 16 0) i l (ltb-true i 2 u) ∙ get_or-replicate 16 i 0 0 l))
-    (λ u. let k = ltb-false i 2 u in let z : 2 + (i - 2) ≡ i = omega arith in
-    rw u (rw z at (patch_in 2 14 f (replicate 16 0) (i - 2) (omega arith) (rw z l))))))
+each_made : {F : Type 0} (g : Mut F (ℕ × Unit {0}) ℕ) (f : F) (h : ℕ → ℕ) (ys : List ℕ) (n i : ℕ) → ActsAs g f h → IsFromFnResultFrom g f ys i n
+    → (j : ℕ) → j < n → at ys (i + j) ≡ h (i + j)
+each_made g f h ys zero i acts e j l = absurd (omega arith)
+each_made g f h ys (suc n) i acts e j l =
+    let a = acts i e.1 e.0 e.3 in
+    case (eqb j 0)
+    (λ t. let z : i + j ≡ i = omega (arith, eqb-true j 0 t) in rw (z, e.2.1 0) a.1)
+    (λ t. let d = eqb-false j 0 t in
+    let z : i + 1 + (j - 1) ≡ i + j = omega arith in
+    rw z at (each_made g f h ys n (i + 1) acts (rw a.0 at e.4) (j - 1) (omega arith)))
 
-pub all_filled : (f : ℕ → ℕ) (t : List ℕ) → t ≡ filled 14 f → (t ≡ table 16 (led f)) × (at t 0 ≡ 0) × (at t 1 ≡ 0)
-unfolding table
-all_filled f t d = let e = table_filled f t d in (e, rw e, rw e)
+pub all_made : {F : Type 0} {g : Mut F (ℕ × Unit {0}) ℕ} {f : F} {ys : List ℕ} {n : ℕ} (h : ℕ → ℕ) → ActsAs g f h → IsFromFnResult g f ys n → ys ≡ table n h
+all_made {F} {g} {f} {ys} {n} h acts r = is_table ys n h r.long (λ i l. let z : 0 + i ≡ i = omega arith in rw z at (each_made g f h ys n 0 acts r.each i l))
 
--- the first two places are as they were
-pub join_led : (s bs : List ℕ) (b : ℕ) → 2 ≤ b → b + 14 ≤ length s → at bs 0 ≡ 0 → at bs 1 ≡ 0
-    → patch (b - 2) 16 (λ j. bit_or (at s (b - 2 + j)) (at bs j)) s ≡ patch b 14 (λ j. bit_or (at s (b + j)) (at bs (j + 2))) s
-join_led s bs b low room none₀ none₁ =
-    is_patch b 14 (λ j. bit_or (at s (b + j)) (at bs (j + 2))) s (patch (b - 2) 16 f s) (patch_length (b - 2) 16 f s)
-    (λ j l h. let z : b - 2 + (j + 2) ≡ b + j = omega arith in rw z at (patch_in (b - 2) 16 f s (j + 2) (omega arith) (rw z h)))
-    (λ i h no. patch_at (b - 2) 16 f s i h ∙ case (covers (b - 2) 16 i)
-    (λ t. let r = covers_true (b - 2) 16 i t in let u = r.0 in let v = r.1 in
-    let z : b - 2 + (i - (b - 2)) ≡ i = omega arith in
-    rw (t, z, first (i - (b - 2)) (off i no u v)) (or_zero_r (at s i)))
-    (λ t. rw t))
-  where
-    f : ℕ → ℕ
-    f j = bit_or (at s (b - 2 + j)) (at bs j)
+-- ---- fourteen bytes behind two zeros, joined from two places before: these stay as they are
 
-    off : (i : ℕ) → (b ≤ i → i < b + 14 → ⊥) → b - 2 ≤ i → i < b - 2 + 16 → i - (b - 2) < 2
-    off i out u v = case (ltb i b) (λ t. let l = ltb-true i b t in omega arith) (λ t. absurd (out (ltb-false i b t) (omega arith)))
+module _ (s bs led : List ℕ) (b : ℕ) (low : 2 ≤ b) (room : b + 14 ≤ length s) (many : length bs ≡ 14) (copied : led ≡ patch 2 (length bs) (at bs) (replicate 16 0)) where
+  e : led ≡ patch 2 14 (at bs) (replicate 16 0)
+  e = rw many at copied
 
-    first : (k : ℕ) → k < 2 → at bs k ≡ 0
-    first k l = case (eqb k 0) (λ t. rw (eqb-true k 0 t) none₀) (λ t. let d = eqb-false k 0 t in let z : k ≡ 1 = omega arith in rw z none₁)
+  long : length {A = ℕ} (replicate 16 0) ≡ 16
+  long = length-replicate {A = ℕ} 16 0
+
+  lead : (k : ℕ) → k < 2 → at led k ≡ 0
+  lead k l = let n = long in rw e (patch_below 2 14 (at bs) (replicate 16 0) k (omega arith) l ∙ get_or-replicate 16 k 0 0 (omega arith))
+
+  behind : (j : ℕ) → j < 14 → at led (2 + j) ≡ at bs j
+  behind j l = let n = long in rw e (patch_in 2 14 (at bs) (replicate 16 0) j l (omega arith))
+
+  f : ℕ → ℕ
+  f j = bit_or (at s (b - 2 + j)) (at led j)
+
+  pub join_led : (t : List ℕ) → t ≡ patch (b - 2) (length led) (λ j. bit_or (at s (b - 2 + j)) (at led j)) s → t ≡ patch b 14 (λ j. bit_or (at s (b + j)) (at bs j)) s
+  unfolding f
+  join_led t d =
+      let n : length led ≡ 16 = ap length e ∙ patch_length 2 14 (at bs) (replicate 16 0) ∙ long in
+      rw n at d ∙
+      is_patch b 14 (λ j. bit_or (at s (b + j)) (at bs j)) s (patch (b - 2) 16 f s) (patch_length (b - 2) 16 f s)
+      (λ j l h. let z : b - 2 + (2 + j) ≡ b + j = omega arith in rw (behind j l) at (rw z at (patch_in (b - 2) 16 f s (2 + j) (omega arith) (rw z h))))
+      (λ i h no. patch_at (b - 2) 16 f s i h ∙ case (covers (b - 2) 16 i)
+      (λ t. let r = covers_true (b - 2) 16 i t in let u = r.0 in let v = r.1 in
+      let z : b - 2 + (i - (b - 2)) ≡ i = omega arith in
+      rw (t, z, lead (i - (b - 2)) (before i no u v)) (or_zero_r (at s i)))
+      (λ t. rw t))
+    where
+      before : (i : ℕ) → (b ≤ i → i < b + 14 → ⊥) → b - 2 ≤ i → i < b - 2 + 16 → i - (b - 2) < 2
+      before i out u v = case (ltb i b) (λ t. let l = ltb-true i b t in omega arith) (λ t. absurd (out (ltb-false i b t) (omega arith)))
+
+-- ---- one record raised
 
 -- the flags of the record at b are joined, and then its pending bits
 pub raise_both : (s t u cs os : List ℕ) (b : ℕ) → b + record_size ≤ length s
-    → t ≡ patch (b + 0) 14 (λ j. bit_or (at s (b + 0 + j)) (at cs (j + 2))) s → u ≡ patch (b + 28) 14 (λ j. bit_or (at t (b + 28 + j)) (at os (j + 2))) t
+    → t ≡ patch (b + 0) 14 (λ j. bit_or (at s (b + 0 + j)) (at cs j)) s → u ≡ patch (b + 28) 14 (λ j. bit_or (at t (b + 28 + j)) (at os j)) t
     → u ≡ patch b record_size (λ k. joined cs os k (at s (b + k))) s
 raise_both s t u cs os b room e d =
     let z : b + 0 ≡ b = omega arith in
     let e₁ = rw z at e in
-    two_runs s t b (λ j. bit_or (at s (b + j)) (at cs (j + 2))) room e₁ u (λ j. bit_or (at t (b + 28 + j)) (at os (j + 2))) d (λ k. joined cs os k (at s (b + k)))
+    two_runs s t b (λ j. bit_or (at s (b + j)) (at cs j)) room e₁ u (λ j. bit_or (at t (b + 28 + j)) (at os j)) d (λ k. joined cs os k (at s (b + k)))
     (λ k l. rw (lt-ltb k 14 l))
     (λ k l. let y : 28 + k - 28 ≡ k = omega arith in let w : b + 28 + k ≡ b + (28 + k) = omega arith in
-    rw (le-ltb (28 + k) 14 (omega arith), covers_in 28 14 (28 + k) (omega arith) (omega arith), y, second_run s t b (λ j. bit_or (at s (b + j)) (at cs (j + 2))) room e₁ k l, w))
+    rw (le-ltb (28 + k) 14 (omega arith), covers_in 28 14 (28 + k) (omega arith) (omega arith), y, second_run s t b (λ j. bit_or (at s (b + j)) (at cs j)) room e₁ k l, w))
     (λ k l h. rw (le-ltb k 14 l, covers_below 28 14 k h))
 
 -- ---- the whole
 
 -- the conditions cs and the onsets os of the sample x; t₁ is the state with the conditions kept, t₂ and t₃ with one record raised, and with both
-module _ (s x : List ℕ) (taken : refusal_of eight s (sample x) ≡ 0) (cs os t₁ t₂ t₃ : List ℕ) (ec : cs ≡ table 16 (led (conditions x)))
-    (eo : os ≡ table 16 (led (λ i. bit_xor (at cs (i + 2)) (bit_and (at cs (i + 2)) (at s i))))) (e₁ : t₁ ≡ patch 0 14 (λ j. at cs (2 + j)) s)
+module _ (s x : List ℕ) (taken : refusal_of eight s (sample x) ≡ 0) (cs os t₁ t₂ t₃ : List ℕ) (ec : cs ≡ table 14 (conditions x))
+    (eo : os ≡ table 14 (λ i. bit_xor (at cs i) (bit_and (at cs i) (at s i)))) (e₁ : t₁ ≡ patch 0 14 (at cs) s)
     (e₂ : t₂ ≡ patch (base eight operator) record_size (λ k. joined cs os k (at t₁ (base eight operator + k))) t₁)
     (e₃ : t₃ ≡ patch (base eight recorder) record_size (λ k. joined cs os k (at t₂ (base eight recorder + k))) t₂) where
   l₀ : length s ≡ state_size eight
   l₀ = (sample_sizes eight s x taken).0
 
   l₁ : length t₁ ≡ state_size eight
-  l₁ = ap length e₁ ∙ patch_length 0 14 (λ j. at cs (2 + j)) s ∙ l₀
+  l₁ = ap length e₁ ∙ patch_length 0 14 (at cs) s ∙ l₀
 
   l₂ : length t₂ ≡ state_size eight
   l₂ = ap length e₂ ∙ patch_length (base eight operator) record_size (λ k. joined cs os k (at t₁ (base eight operator + k))) t₁ ∙ l₁
@@ -104,15 +129,11 @@ module _ (s x : List ℕ) (taken : refusal_of eight s (sample x) ≡ 0) (cs os t
   l₃ : length t₃ ≡ state_size eight
   l₃ = ap length e₃ ∙ patch_length (base eight recorder) record_size (λ k. joined cs os k (at t₂ (base eight recorder + k))) t₂ ∙ l₂
 
-  -- behind the two zeros
-  led_at : (f : ℕ → ℕ) (l : List ℕ) → l ≡ table 16 (led f) → (i : ℕ) → i < 14 → at l (i + 2) ≡ f i
-  led_at f l e i h = let z : i + 2 - 2 ≡ i = omega arith in rw e (table_at 16 (led f) (i + 2) (omega arith) ∙ rw (le-ltb (i + 2) 2 (omega arith), z))
+  condition_at : (i : ℕ) → i < 14 → at cs i ≡ conditions x i
+  condition_at i l = rw ec (table_at 14 (conditions x) i l)
 
-  condition_at : (i : ℕ) → i < 14 → at cs (i + 2) ≡ conditions x i
-  condition_at i l = led_at (conditions x) cs ec i l
-
-  onset_at : (i : ℕ) → i < 14 → at os (i + 2) ≡ onset (state_of eight s).mem x i
-  onset_at i l = led_at (λ i. bit_xor (at cs (i + 2)) (bit_and (at cs (i + 2)) (at s i))) os eo i l ∙ rw (condition_at i l, memory_at eight s i l)
+  onset_at : (i : ℕ) → i < 14 → at os i ≡ onset (state_of eight s).mem x i
+  onset_at i l = rw eo (table_at 14 (λ i. bit_xor (at cs i) (bit_and (at cs i) (at s i))) i l ∙ rw (condition_at i l, memory_at eight s i l))
 
   -- what the sample makes of a byte of a record
   joined_is : (o : Places) (k : ℕ) → joined cs os k (o k) ≡ raised (state_of eight s).mem x o k
@@ -134,15 +155,14 @@ module _ (s x : List ℕ) (taken : refusal_of eight s (sample x) ≡ 0) (cs os t
   first_at p k h =
       let b = base_fits eight p k h in
       let l = l₀ in
-      let z : at t₁ (base eight p + k) ≡ at s (base eight p + k) = rw e₁ (patch_above 0 14 (λ j. at cs (2 + j)) s (base eight p + k) (omega arith) (omega arith)) in
+      let z : at t₁ (base eight p + k) ≡ at s (base eight p + k) = rw e₁ (patch_above 0 14 (at cs) s (base eight p + k) (omega arith) (omega arith)) in
       z ∙ sym (record_at eight s p k h)
 
   memory_is : (i : ℕ) → i < 14 → at t₃ i ≡ (if ltb i 14 then conditions x i else (state_of eight s).mem i)
   memory_is i h =
       let l = l₀ in
-      let z : 2 + i ≡ i + 2 = omega arith in
-      let y : at t₁ i ≡ at cs (2 + i) = rw e₁ (front_in 14 (λ j. at cs (2 + j)) s i h (omega arith)) in
-      kept₃ i (omega arith) (λ u v. omega arith) ∙ kept₂ i (omega arith) (λ u v. omega arith) ∙ y ∙ rw (z, lt-ltb i 14 h) (condition_at i h)
+      let y : at t₁ i ≡ at cs i = rw e₁ (front_in 14 (at cs) s i h (omega arith)) in
+      kept₃ i (omega arith) (λ u v. omega arith) ∙ kept₂ i (omega arith) (λ u v. omega arith) ∙ y ∙ rw (lt-ltb i 14 h) (condition_at i h)
 
   record_is : (p : Port) (k : ℕ) → k < record_size → at t₃ (base eight p + k) ≡ raised (state_of eight s).mem x ((state_of eight s).own p) k
   record_is operator k h =

@@ -1,17 +1,14 @@
 -- `log_block::grow` meets its contract: once the sample and the count are put, the places before byte 501 are those of the grown block,
--- and `seal` goes by these alone (`grow_done`). The count is then at most 16, which `seal` asks for.
-use Rattle.std.proofs.Common.{ℕ, ◌+◌, ◌∙◌, arith, length-set}
-use Rattle.laws.specs.Lists.{at}
-use Rattle.laws.proofs.Lists.{at_set}
+-- and `seal` goes by these alone (`grow_done`).
+use Rattle.std.proofs.Common.{◌≡◌, ◌∙◌, arith}
+use Rattle.block.specs.Block.{count}
 use Rattle.log_block.proofs.Laws.{grow_done}
 use Rattle.log_block.proofs.grow.Goals as goal
 
-pub seal-requires : goal.seal-requires
-seal-requires c =
-    let k = c.copy in
-    let n : ℕ = at c.args.block.now 4 + 1 in
-    (length-set k.new.dst 4 n ∙ k.auto.dst ∙ c.requires.0, rw (at_set k.new.dst 4 n 4 (omega (arith, k.auto.dst, c.requires.0))) (omega (arith, c.requires.2)))
-
 pub returns : goal.returns
 returns c =
-    c.seal.ensures ∙ rw c.copy.ensures (grow_done c.args.block.now c.requires.0 c.args.sample.now c.requires.2)
+    let x = c.args in
+    let k : c.from.result ≡ count x.block.now = c.from.ensures ∙ c.count_of-count.ensures in
+    let e = c.count_of-count.ensures in
+    c.seal.ensures ∙ rw c.copy_from_slice.ensures.after
+    (grow_done x.block.now x.sample.now c.told-block c.told-sample c.requires _ _ _ (omega arith) (omega arith) (omega arith))

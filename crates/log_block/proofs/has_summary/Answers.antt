@@ -1,8 +1,10 @@
--- `log_block::has_summary` meets its contract: the four tests and the five zeros are the summary's nine places, one after the other.
-use Rattle.log_block.proofs.Ends.{summary_parts}
+-- `log_block::has_summary` meets its contract: its tests are those of the summary's nine places, one after the other.
+use Rattle.std.proofs.Common.{◌∙◌, arith}
+use Rattle.log_block.proofs.Ends.{part_blank, summary_parts}
 use Rattle.log_block.proofs.has_summary.Goals as goal
 
 pub returns : goal.returns
 returns c =
-    let s = c.status_of-s.ensures in
-    rw c.is_blank-rest.ensures (summary_parts c.args.block.now _ _ _ s.0 s.1 s.2)
+    let b = c.args.block.now in
+    let rest = c.is_blank.ensures ∙ part_blank 505 5 b (omega arith) in
+    rw (c.eq.ensures, c.status_of.ensures, rest) (summary_parts b c.told-block)

@@ -1,21 +1,9 @@
--- `log_block::is_blank` meets its contract: the OR of the bytes already gone through is 0 exactly if each of them is.
-use Rattle.std.proofs.Common.{◌≡◌, ◌+◌, refl, add-one, arith, rules}
-use Rattle.laws.proofs.Zeros.{or_none}
-use Rattle.laws.specs.Lists.{at}
-use Rattle.block.specs.Block.{holds}
+-- `log_block::is_blank` meets its contract: an OR is 0 exactly if each of the bytes is.
+use Rattle.std.proofs.Common.{◌≡◌, fold, bit_or, rules}
+use Rattle.log_block.proofs.Folds.{blank_folded}
 use Rattle.log_block.proofs.is_blank.Goals as goal
-
-pub loop-i-init : goal.loop-i-init
-unfolding holds
-loop-i-init c = (search rules, refl)
-
-pub loop-i-preserved : goal.loop-i-preserved
-unfolding holds
-loop-i-preserved c =
-    let x = c.args in
-    (search rules, rw (add-one, ← c.loop-i.invariant.1) (or_none c.loop-i.seen (at x.s.now (x.from + c.loop-i.i))))
 
 pub returns : goal.returns
 returns c =
-    let k : c.loop-i.i ≡ c.args.n = omega arith in
-    rw k at c.loop-i.invariant.1
+    let e : c.fold.result ≡ fold bit_or 0 c.args.bytes.now = search rules in
+    rw e (blank_folded 0 c.args.bytes.now)

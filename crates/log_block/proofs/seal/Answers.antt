@@ -1,7 +1,8 @@
--- `log_block::seal` meets its contract: the two bytes of the check are 0 while the sum is taken, so it is that of the first 510.
+-- `log_block::seal` meets its contract: the sum of the first 510 bytes, the summary among them, is put behind them.
+use Rattle.std.proofs.Common.{◌∙◌}
 use Rattle.log_block.proofs.Ends.{seal_done}
 use Rattle.log_block.proofs.seal.Goals as goal
 
 pub returns : goal.returns
 returns c =
-    rw c.put_summary.ensures (seal_done c.args.block.now c.requires.0 _ (rw c.put_summary.ensures at c.sum16-check.ensures))
+    seal_done c.args.block.now c.told-block _ _ c.put_summary.ensures (c.copy_from_slice.ensures.after ∙ c.to_be_bytes-check.ensures ∙ rw c.sum16.ensures)

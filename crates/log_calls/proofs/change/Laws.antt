@@ -1,66 +1,83 @@
 -- What an add and a power-up leave, in the steps of the functions: a block that is lent and comes back is a block that is put, and one
 -- that is opened and then grows is put twice at one place, which is once.
 -- Assumes nothing.
-use mathlib.Core.Path.{◌≡◌, refl, sym, ap, ◌∙◌}
-use mathlib.Core.Logic.{◌≢◌}
-use mathlib.Core.Bool.{Bool, false, not, ◌&&◌}
-use mathlib.Core.List.{List, [], ◌∷◌}
-use Prim.Native.Nat.{ℕ, zero, suc, ◌+◌, ◌-◌, ◌*◌, ◌≤◌, ◌<◌}
-use native.Mathlib.Omega.{arith}
-use lib.Dec.{leb}
-use lib.ListN.{length}
-use borrow.Author.Tests.{eq-eqb}
-use borrow.Rule.Slice.PartMut.{put_mid}
+use Rattle.std.proofs.Common.{◌≡◌, ℕ, suc, ◌+◌, ◌-◌, ◌*◌, ◌≤◌, ◌<◌, Bool, true, false, not, ◌&&◌, ◌||◌, leb, eqb, List, [], ◌∷◌, ◌++◌, length, take, drop, refl, sym, ap, ◌∙◌, arith, eq-eqb}
+use Rattle.std.specs.List.{concat}
+use Rattle.std.specs.Simd.{first_chunks}
+use borrow.Author.Tests.{leb-false, eqb-false}
 use Rattle.laws.specs.Tests.{first_of}
+use Rattle.laws.proofs.Tests.{or_left, or_right}
 use Rattle.laws.proofs.Parts.{put_back}
-use Rattle.block.specs.Block.{block_size, sample_size, number, count, most_samples, grown}
-use Rattle.log_model.specs.Log.{block, last_number, needs_new, put, new_block, wrong_sample, unsound, none_left}
-use Rattle.log_model.specs.Outcomes.{add_refusal, power_up_refusal}
+use Rattle.block.specs.Block.{block_size, sample_size, count, most_samples, grown}
 use Rattle.block.proofs.Blocks.{fresh_length, fresh_count}
+use Rattle.log_model.specs.Log.{blocks, block, misfit, unsound, last_number, needs_new, put, none_left, new_block, wrong_sample}
+use Rattle.log_model.specs.Outcomes.{add_refusal, Added}
+use Rattle.log_model.proofs.Outcomes.{added_new}
+use Rattle.log_model.proofs.Adds.{add_room, add_last_room}
 use Rattle.log_model.proofs.BlockByBlock.{put_length, put_here, put_put}
+use Rattle.log_block.proofs.Chunks.{chunks_front}
+use Rattle.log_calls.proofs.Blocks.{cut_last, cut_full, cut_none_left}
 
--- ---- the last used block
+-- ---- refusals, past the first
 
-pub last_is : (log : List ℕ) (used : ℕ) → used ≢ 0 → number (block log (used - 1)) ≡ last_number log used
-last_is log zero h = absurd (h refl)
-last_is log (suc n) h = let z : suc n - 1 ≡ n = omega arith in rw z
+module _ (log : List ℕ) (used : ℕ) {bs : List (List ℕ)} (given : (unsound log used ≡ false) × (bs ≡ first_chunks block_size used log)) where
+  pub add_code : {t : Bool} → t ≡ (needs_new (concat bs) (length bs) && (leb (blocks log) (length bs) || eqb (last_number (concat bs) (length bs)) 4294967295))
+      → first_of ((15, false) ∷ (14, t) ∷ []) ≡ first_of ((15, unsound log used) ∷ (14, needs_new log used && none_left log used) ∷ [])
+  add_code {t} e =
+      let fits = or_left (misfit log used) _ given.0 in
+      let d : t ≡ (needs_new log used && none_left log used) = e ∙ rw (cut_full log used given.1 fits, cut_none_left log used given.1 fits) in
+      λ i. first_of ((15, sym given.0 i) ∷ (14, d i) ∷ [])
 
-pub full_is : (log : List ℕ) (used : ℕ) → used ≢ 0 → leb most_samples (count (block log (used - 1))) ≡ needs_new log used
-full_is log zero h = absurd (h refl)
-full_is log (suc n) h = let z : suc n - 1 ≡ n = omega arith in rw z
+-- ---- room for a block
+
+module _ (log : List ℕ) (used : ℕ) (e : none_left log used ≡ false) where
+  pub room : block_size * used + block_size ≤ length log
+  room = let h = leb-false (blocks log) used (or_left (leb (blocks log) used) _ e) in omega arith
+
+  pub last_cut : {bs : List (List ℕ)} → bs ≡ first_chunks block_size (blocks log) log
+      → last_number (concat (take used bs)) (length (take used bs)) ≡ last_number log used
+  last_cut {bs} cut =
+      let h = room in
+      cut_last log used (ap (take used) cut ∙ chunks_front block_size used (blocks log) log (omega arith)) (omega arith)
+
+  pub next_fits : {n : ℕ} → n ≡ last_number log used → n < 4294967296 → n + 1 < 4294967296
+  next_fits {n} d h = omega (arith, eqb-false (last_number log used) 4294967295 (or_right (leb (blocks log) used) _ e))
 
 -- ---- a block that was lent comes back
 
 pub block_back : (log : List ℕ) (i : ℕ) (b : List ℕ) → block_size * i + block_size ≤ length log → length b ≡ block_size
-    → put_mid (block_size * i) (block_size * i + block_size - block_size * i) log b ≡ put log i b
+    → take (block_size * i) log ++ (b ++ drop block_size (drop (block_size * i) log)) ≡ put log i b
 unfolding put
-block_back log i b h e =
-    let z : block_size * i + block_size - block_size * i ≡ block_size = omega arith in
-    rw z (put_back (block_size * i) block_size log b h e)
+block_back log i b h e = put_back (block_size * i) block_size log b h e
 
--- ---- refusals, by the functions' tests
+-- ---- an add that is accepted, by what is left of its rows
 
-pub add_by_tests : (log : List ℕ) (used : ℕ) (x : List ℕ) {w u f : Bool} → wrong_sample x ≡ w → u ≡ unsound log used → f ≡ (needs_new log used && none_left log used)
-    → first_of ((8, w) ∷ (15, u) ∷ (14, f) ∷ []) ≡ add_refusal log used x
-add_by_tests log used x e d k = λ i. first_of ((8, sym e i) ∷ (15, d i) ∷ (14, k i) ∷ [])
+module _ (log : List ℕ) (used : ℕ) (x : List ℕ) (long : length x ≡ sample_size)
+    (code : 0 ≡ first_of ((15, unsound log used) ∷ (14, needs_new log used && none_left log used) ∷ [])) where
+  pub taken : 0 ≡ add_refusal log used x
+  taken =
+      let right : wrong_sample x ≡ false = ap not (eq-eqb (length x) sample_size long) in
+      code ∙ λ i. first_of ((8, sym right i) ∷ (15, unsound log used) ∷ (14, needs_new log used && none_left log used) ∷ [])
 
-pub power_up_by_tests : (log : List ℕ) (used : ℕ) {u f : Bool} → u ≡ unsound log used → f ≡ none_left log used → first_of ((15, u) ∷ (14, f) ∷ []) ≡ power_up_refusal log used
-power_up_by_tests log used d k = λ i. first_of ((15, d i) ∷ (14, k i) ∷ [])
+  pub last_room : needs_new log used ≡ false → (block_size * (used - 1) + block_size ≤ length log) × (count (block log (used - 1)) < most_samples)
+  last_room need = let (some_used, fits, few) = add_last_room log used x (sym taken) need in (fits, few)
 
-pub right_sample : (x : List ℕ) → length x ≡ sample_size → wrong_sample x ≡ false
-right_sample x e = ap not (eq-eqb (length x) sample_size e)
+  -- in a new block: that is opened, and then grows
+  module _ (need : needs_new log used ≡ true) {t : List ℕ} (opened : t ≡ put log used (new_block log used)) where
+    fits : block_size * used + block_size ≤ length log
+    fits = add_room log used x (sym taken) need
 
--- ---- a sample in a new block: the block is opened, and then grows
+    here : block (put log used (new_block log used)) used ≡ new_block log used
+    here = put_here log used (new_block log used) (fresh_length (suc (last_number log used))) fits
 
-module _ (log : List ℕ) (used : ℕ) (room : block_size * used + block_size ≤ length log) (t : List ℕ) (e : t ≡ put log used (new_block log used)) where
-  long : length (new_block log used) ≡ block_size
-  long = fresh_length (suc (last_number log used))
+    pub opened_room : (block_size * used + block_size ≤ length t) × (count (block t used) < most_samples)
+    opened_room =
+        let h = fits in
+        let l : length t ≡ length log = ap length opened ∙ put_length log used (new_block log used) in
+        let c : count (block t used) ≡ 0 = rw (opened, here) (fresh_count (suc (last_number log used))) in
+        (omega arith, omega arith)
 
-  pub opened_room : (block_size * used + block_size ≤ length t) × (count (block t used) < most_samples)
-  opened_room =
-      let l : length t ≡ length log = ap length e ∙ put_length log used (new_block log used) in
-      let c : count (block t used) ≡ 0 = rw (e, put_here log used (new_block log used) long room) (fresh_count (suc (last_number log used))) in
-      (omega arith, omega arith)
-
-  pub opened_grown : (x : List ℕ) → put t used (grown (block t used) x) ≡ put log used (grown (new_block log used) x)
-  opened_grown x = rw (e, put_here log used (new_block log used) long room) (put_put log used (new_block log used) (grown (new_block log used) x) room)
+    pub opened_added : {u : List ℕ} → u ≡ put t used (grown (block t used) x) → Added log used x 0 (used + 1) u
+    opened_added {u} e =
+        added_new log used x 0 taken refl need u
+        (e ∙ rw (opened, here) (put_put log used (new_block log used) (grown (new_block log used) x) fits))

@@ -1,75 +1,72 @@
--- A sound log in the steps of the walk over its used blocks: after i sound ones the next keeps the log sound if it is sound and, unless
--- it is the first, its number is the last one's plus 1; and one that is not so ends the walk, since no sound log has such a block.
+-- A log is sound if each of its blocks is, and each number but the first is the one before it plus 1.
 -- Assumes nothing.
-use mathlib.Core.Path.{◌≡◌, refl, sym, ◌∙◌}
-use mathlib.Core.Bool.{Bool, true, false, not, ◌&&◌, ◌||◌, true≢false}
-use mathlib.Core.List.{List}
-use Prim.Native.Nat.{ℕ, zero, suc, ◌+◌, ◌*◌, ◌≤◌, ◌<◌}
-use native.Mathlib.Omega.{arith}
-use lib.Dec.{eqb}
-use lib.ListN.{length}
-use borrow.Author.Tests.{ne_eqb, eqb-true, not-true}
-use Rattle.laws.proofs.Tests.{case, and_left, and_right, and_both, not_both}
-use Rattle.block.specs.Block.{block_size, number, sound_block}
-use Rattle.log_model.specs.Log.{block, follows, sound, last_number, misfit, unsound}
-use Rattle.log_model.proofs.BlockByBlock.{sound_block_lem, sound_follows}
-use Rattle.log_model.proofs.Fits.{fitting, fit}
+use Rattle.std.proofs.Common.{◌≡◌, ℕ, zero, suc, ◌+◌, ◌≤◌, ◌<◌, ◌↔◌, Bool, true, false, ◌&&◌, List, [], length, get_or, refl, sym, ap, ◌∙◌, add-one, arith, eq-eqb, eqb-true}
+use Rattle.std.specs.List.{concat}
+use Rattle.laws.proofs.Tests.{case, same_test, not_both, and_left, and_right, and_both}
+use Rattle.block.specs.Block.{number, sound_block, Bytes}
+use Rattle.log_model.specs.Log.{block, blocks, follows, sound, Fit}
+use Rattle.log_model.proofs.BlockByBlock.{sound_block_lem, sound_follows, sound_less, bytes_block}
+use Rattle.log_calls.proofs.Blocks.{Whole, joined_block}
 
--- ---- a turn of the walk: block i after i sound ones, of which the last has the number `last`
+module _ (bs : List (List ℕ)) (whole : Whole bs) where
+  -- each block is sound
+  abbrev pub AllFine : Type 0
+  AllFine = (k : ℕ) → k < length bs → sound_block (get_or bs k []) ≡ true
 
-module _ (log : List ℕ) (i last : ℕ) (known : last ≡ last_number log i) where
-  follows_known : follows log i ≡ (eqb i 0 || eqb (number (block log i)) (last + 1))
-  follows_known = by i known
+  -- the numbers of neighbours rise by one
+  abbrev pub AllNext : Type 0
+  AllNext = (k : ℕ) → k + 1 < length bs → number (get_or bs (k + 1) []) ≡ suc (number (get_or bs k []))
+
+  sound_to : AllFine → AllNext → (n : ℕ) → n ≤ length bs → sound (concat bs) n ≡ true
+  unfolding sound
+  sound_to fine next zero h = refl
+  sound_to fine next (suc n) h =
+      and_both (sound_to fine next n (omega arith)) (and_both (ap sound_block (joined_block bs whole n (omega arith)) ∙ fine n (omega arith)) (by n h))
     where
-      by : (i : ℕ) → last ≡ last_number log i → follows log i ≡ (eqb i 0 || eqb (number (block log i)) (last + 1))
-      by zero e = refl
-      by (suc m) e = let z : last + 1 ≡ suc (number (block log m)) = omega arith in rw (z, ne_eqb (suc m) 0 (λ q. omega arith))
+      by : (n : ℕ) → suc n ≤ length bs → follows (concat bs) n ≡ true
+      by zero h = refl
+      by (suc m) h =
+          rw (joined_block bs whole (suc m) (omega arith), joined_block bs whole m (omega arith))
+          (eq-eqb (number (get_or bs (suc m) [])) (suc (number (get_or bs m []))) (rw add-one at (next m (omega arith))))
 
-  -- its number is the next one
-  pub follows_on : (not (eqb i 0) && not (eqb (number (block log i)) (last + 1))) ≡ false → follows log i ≡ true
-  follows_on e = follows_known ∙ case (eqb i 0)
-      (λ t. rw t)
-      (λ t. rw t (case (eqb (number (block log i)) (last + 1)) (λ q. q) (λ q. absurd (true≢false (rw (t, q) at e)))))
+  module _ (s : sound (concat bs) (length bs) ≡ true) where
+    sound_fine : AllFine
+    sound_fine k h = ap sound_block (sym (joined_block bs whole k h)) ∙ sound_block_lem (concat bs) (length bs) k h s
 
-  -- it is not
-  pub follows_not : (not (eqb i 0) && not (eqb (number (block log i)) (last + 1))) ≡ true → follows log i ≡ false
-  follows_not e =
-      let a = not-true (eqb i 0) (and_left (not (eqb i 0)) (not (eqb (number (block log i)) (last + 1))) e) in
-      let b = not-true (eqb (number (block log i)) (last + 1)) (and_right (not (eqb i 0)) (not (eqb (number (block log i)) (last + 1))) e) in
-      follows_known ∙ rw (a, b)
+    sound_next : AllNext
+    sound_next k h =
+        let e : follows (concat bs) (suc k) ≡ true = sound_follows (concat bs) (length bs) (suc k) (omega arith) s in
+        rw (add-one, ← joined_block bs whole (suc k) (omega arith), ← joined_block bs whole k (omega arith))
+        (eqb-true (number (block (concat bs) (suc k))) (suc (number (block (concat bs) k))) e)
 
-  -- no more blocks than numbers from 0 to the last one's
-  pub counted_on : (not (eqb i 0) && not (eqb (number (block log i)) (last + 1))) ≡ false → i ≤ last + 1 → i + 1 ≤ number (block log i) + 1
-  counted_on e h = case (eqb i 0)
-      (λ t. let z = eqb-true i 0 t in omega arith)
-      (λ t. case (eqb (number (block log i)) (last + 1))
-      (λ q. let z = eqb-true (number (block log i)) (last + 1) q in omega arith)
-      (λ q. absurd (true≢false (rw (t, q) at e))))
+  module _ {fine : Bool} (p : (fine ≡ true) ↔ AllFine) where
+    pub sound_is : {next : Bool} → (next ≡ true) ↔ AllNext → (fine && next) ≡ sound (concat bs) (length bs)
+    sound_is {next} q =
+        same_test (fine && next) (sound (concat bs) (length bs))
+        (λ t. sound_to (p.0 (and_left fine next t)) (q.0 (and_right fine next t)) (length bs) (omega arith))
+        (λ t. and_both (p.1 (sound_fine t)) (q.1 (sound_next t)))
 
-module _ (log : List ℕ) (used i : ℕ) (here : i < used) where
-  -- the walk ends at a block that is not as it should be
-  pub ends_number : follows log i ≡ false → false ≡ sound log used
-  ends_number e = case (sound log used) (λ t. not_both (follows log i) (sound_follows log used i here t) e) (λ t. sym t)
+    pub not_sound : fine ≡ false → false ≡ sound (concat bs) (length bs)
+    not_sound f = case (sound (concat bs) (length bs)) (λ t. not_both fine (p.1 (sound_fine t)) f) (λ t. sym t)
 
-  pub ends_block : sound_block (block log i) ≡ false → false ≡ sound log used
-  ends_block e = case (sound log used) (λ t. not_both (sound_block (block log i)) (sound_block_lem log used i here t) e) (λ t. sym t)
+-- numbers rise from the first block's on, so that there are no more blocks than numbers
+few : (log : List ℕ) (n : ℕ) → sound log (suc n) ≡ true → n ≤ number (block log n)
+few log zero s = omega arith
+few log (suc n) s =
+    let l = few log n (sound_less log (suc n) (suc (suc n)) (omega arith) s) in
+    let e = eqb-true (number (block log (suc n))) (suc (number (block log n))) (sound_follows log (suc (suc n)) (suc n) (omega arith) s) in
+    omega arith
 
--- or goes on
-pub goes_on : (log : List ℕ) (i : ℕ) → sound log i ≡ true → sound_block (block log i) ≡ true → follows log i ≡ true → sound log (suc i) ≡ true
-unfolding sound
-goes_on log i s b f = and_both s (and_both b f)
-
--- ---- 15
-
-module _ (log : List ℕ) (used : ℕ) where
-  pub misfit_unsound : misfit log used ≡ true → true ≡ unsound log used
-  misfit_unsound e = rw e
-
-  pub by_walk : misfit log used ≡ false → (t : Bool) → t ≡ sound log used → not t ≡ unsound log used
-  by_walk e t s = rw (e, ← s)
-
-  pub fits_blocks : misfit log used ≡ false → block_size * used ≤ length log
-  fits_blocks e = let h = (fitting log used e).1 in omega arith
-
-  pub fits_in : unsound log used ≡ false → (block_size * used ≤ length log) × (sound log used ≡ true)
-  fits_in e = let f = fit log used e in let h = f.fits in (omega arith, f.good)
+pub at_most : (log : List ℕ) (used : ℕ) → Bytes log → Fit log used → used ≤ 4294967296
+at_most log used bytes f = by used f.fits f.good
+  where
+    by : (n : ℕ) → n ≤ blocks log → sound log n ≡ true → n ≤ 4294967296
+    by zero h s = omega arith
+    by (suc n) h s =
+        let l = few log n s in
+        let b = bytes_block log n bytes (omega arith) in
+        let b₀ = b 0 in
+        let b₁ = b 1 in
+        let b₂ = b 2 in
+        let b₃ = b 3 in
+        omega arith

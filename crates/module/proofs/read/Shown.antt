@@ -64,13 +64,6 @@ module _ (out : List ℕ) (a n : ℕ) (room : n ≤ length out) where
         rw (covers_in 128 128 (a + j) v (omega arith), u, q)))
 
     module _ (b : ℕ) where
-      -- the masks of page 03h
-      pub masks_shown : {t : List ℕ}
-          → t ≡ patch 0 n (λ j. copied s (b + high_mask_of high_masks.first) high_masks.first high_masks.many (a + j) (at out j)) out
-          → t ≡ patch 0 n (λ j. if within high_masks (a + j) then record_of s b (high_mask_of (a + j)) else at out j) out
-      masks_shown d = d ∙ patch_same 0 n _ _ out
-          (λ j l. own_byte document01 s b high_masks (b + high_mask_of high_masks.first) (high_mask_of (a + j)) (a + j) (λ u v. (omega arith, omega arith)) refl)
-
       -- what is the port's own in lower memory
       pub own_shown : {o₁ o₂ o₃ t : List ℕ}
           → o₁ ≡ patch 0 n (λ j. if within (119 to 126) (a + j) then 0 else at out j) out

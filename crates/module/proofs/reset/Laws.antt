@@ -7,33 +7,54 @@ use mathlib.Core.Bool.{not}
 use mathlib.Core.List.{List, [], ◌∷◌}
 use Prim.Native.Nat.{ℕ, ◌+◌, ◌*◌, ◌≤◌, ◌<◌}
 use native.Mathlib.Omega.{arith}
-use lib.ListN.{length, set}
-use Rattle.laws.specs.Tests.{Run, ◌to◌}
+use lib.ListN.{length, set, get_or, drop}
+use Rattle.std.proofs.Common.{add-one}
+use Rattle.std.proofs.Math.Seq.{drop-cons}
+use borrow.Author.Tests.{eq-eqb}
+use Rattle.laws.specs.Tests.{Run, ◌to◌, first_of}
 use Rattle.laws.specs.Lists.{at, patch, sum}
 use Rattle.laws.specs.Bits.{bit}
 use Rattle.laws.proofs.Tests.{if_not, covers_in}
 use Rattle.laws.proofs.Lists.{patch_length, patch_at, patch_below}
 use Rattle.laws.proofs.Fronts.{front_in, front_over, front_set}
 use Rattle.laws.proofs.Runs.{overlaid, overlaid_front}
+use Rattle.ports.specs.Bytes
 use Rattle.ports.specs.Effects
 use Rattle.ports.specs.Interrupt
+use Rattle.ports.specs.Modules
 use Rattle.ports.proofs.Left
+use Rattle.address.specs.declared.registers.Register.{Register}
+use Rattle.address.specs.Meaning.{held_at, length_of}
 use Rattle.model.specs.Ports.{Port, reset}
 use Rattle.model.specs.Map.{memory_size, record_size, state_size, base, status_at}
+use Rattle.model.specs.Refusals.{reset_rows}
 use Rattle.model.specs.Reset.{emptied, in_page02, fresh}
 use Rattle.model.specs.Module.{document01}
 use Rattle.model.specs.Bytes.{state_of, bytes_of, refusal_of}
 use Rattle.model.specs.Outcomes.{Reported}
 use Rattle.model.proofs.Names.{done}
 use Rattle.model.proofs.Bytes.{base_fits, bytes_by_part, memory_at}
-use Rattle.model.proofs.Begun.{taken_size, begun_image}
+use Rattle.model.proofs.Begun.{taken_size}
 use Rattle.model.proofs.Lawful.{lawful}
 
--- an accepted reset is on 688 bytes, with an image of 640
-pub reset_sizes : (s img : List ℕ) → refusal_of s (reset img) ≡ 0 → (length s ≡ state_size) × (length img ≡ memory_size)
-reset_sizes s img e = (taken_size s (reset img) e, (begun_image s img e).0)
+-- of a state of the right length the image alone decides
+pub image_checked : (s img : List ℕ) {r : ℕ} → length s ≡ state_size → r ≡ first_of (reset_rows img) → r ≡ refusal_of s (reset img)
+unfolding Bytes.refusal_of Bytes.rows_of Modules.rows
+image_checked s img long e = rw (eq-eqb (length s) state_size long) e
 
 -- ---- the memory
+
+-- registers emptied one after the other
+abbrev pub wiped : List Register → List ℕ → List ℕ
+wiped [] s = s
+wiped (r ∷ rs) s = wiped rs (patch (held_at r) (length_of r) (λ j. 0) s)
+
+-- one more
+pub wiped_next : (rs : List Register) (k : ℕ) (d : Register) (t u s : List ℕ) → k < length rs
+    → u ≡ patch (held_at (get_or rs k d)) (length_of (get_or rs k d)) (λ j. 0) t → wiped (drop k rs) t ≡ s → wiped (drop (k + 1) rs) u ≡ s
+wiped_next rs k d t u s h e f =
+    let rest : drop k rs ≡ get_or rs k d ∷ drop (k + 1) rs = rw add-one (drop-cons rs k d h) in
+    rw e (rw rest at f)
 
 -- the runs that are brought, and those that are emptied: the code's, the last one first
 abbrev pub brought_runs : List Run
@@ -73,11 +94,11 @@ module _ (s : List ℕ) (long : length s ≡ state_size) where
 module _ (s img : List ℕ) (taken : refusal_of s (reset img) ≡ 0) (t u : List ℕ)
     (eu : u ≡ patch 0 memory_size (λ i. fresh img i (at s i)) s) (et : t ≡ patch memory_size (2 * record_size) (λ j. 0) u) where
   long_u : length u ≡ state_size
-  long_u = ap length eu ∙ patch_length 0 memory_size (λ i. fresh img i (at s i)) s ∙ (reset_sizes s img taken).0
+  long_u = ap length eu ∙ patch_length 0 memory_size (λ i. fresh img i (at s i)) s ∙ taken_size s (reset img) taken
 
   memory_is : (i : ℕ) → i < memory_size → at t i ≡ fresh img i (at s i)
   memory_is i h =
-      let e = (reset_sizes s img taken).0 in
+      let e = taken_size s (reset img) taken in
       let l = long_u in
       rw et (patch_below memory_size (2 * record_size) (λ j. 0) u i (omega arith) h ∙ rw eu (front_in memory_size (λ i. fresh img i (at s i)) s i h (omega arith)))
 

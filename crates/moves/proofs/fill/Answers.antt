@@ -1,17 +1,17 @@
 -- `moves::fill` meets its contract.
-use Rattle.std.proofs.Common.{◌≡◌, refl, arith, rules, length-set}
-use Rattle.laws.proofs.Lists.{patch_none, patch_more}
+use Rattle.std.proofs.Common.{ℕ, ap, ◌≡◌, arith, ◌+◌, ◌-◌, ◌∙◌, replicate}
+use Rattle.std.proofs.Math.ListN.{length-replicate}
+use Rattle.std.proofs.lemmas.List.{get_or-replicate}
+use Rattle.laws.specs.Lists.{at}
+use Rattle.laws.proofs.Lists.{patch_same}
+use Rattle.laws.proofs.Parts.{put_back, slice_length}
 use Rattle.moves.proofs.fill.Goals as goal
-
-pub loop-k-init : goal.loop-k-init
-loop-k-init c = (search rules, refl, patch_none _ _ _)
-
-pub loop-k-preserved : goal.loop-k-preserved
-loop-k-preserved c =
-    let e = c.loop-k.invariant.2 in
-    (search rules, simp length-set (search rules), rw e (patch_more _ _ _ _ (omega arith)))
 
 pub returns : goal.returns
 returns c =
-    let k : c.loop-k.k ≡ c.args.n = omega arith in
-    rw k at c.loop-k.invariant.2
+    let x = c.args in
+    let z : x.to + x.n - x.to ≡ x.n = omega arith in
+    let filled : c.fill.new.self ≡ replicate x.n x.v = c.fill.ensures.after (λ y h. h) ∙ ap (λ (k : ℕ). replicate k x.v) (slice_length x.to x.n x.dst.now c.requires) in
+    rw (filled, z)
+    (put_back x.to x.n x.dst.now (replicate x.n x.v) c.requires (length-replicate x.n x.v)
+    ∙ patch_same x.to x.n (at (replicate x.n x.v)) (λ j. x.v) x.dst.now (λ j h. get_or-replicate x.n j x.v 0 h))

@@ -14,15 +14,10 @@ module _ (s cs : List ℕ) (b : ℕ) where
   joined_more k h = rw (patch_next b joined s k h) (patch_more b joined s k h)
 
 pub loop-k-init : goal.loop-k-init
-loop-k-init c = (search rules, refl, patch_none _ _ _)
+loop-k-init c = (refl, patch_none _ _ _)
 
 pub loop-k-preserved : goal.loop-k-preserved
 loop-k-preserved c =
     let x = c.args in
     let more = joined_more x.dst.now x.src.now x.to c.loop-k.k (omega arith) in
-    (search rules, simp length-set (search rules), rw c.loop-k.invariant.2 more)
-
-pub returns : goal.returns
-returns c =
-    let k : c.loop-k.k ≡ c.args.n = omega arith in
-    rw k at c.loop-k.invariant.2
+    (simp length-set (search rules), rw c.loop-k.invariant.1 more)

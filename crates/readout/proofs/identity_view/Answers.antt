@@ -1,26 +1,20 @@
--- `readout::identity_view` meets its contract: a place that was found lies inside its page, so the view is that part of it; where none
--- was found the page is 0 and the view empty.
+-- `readout::identity_view` meets its contract: a place that was found lies inside its page, so the view is that part of it.
 use Rattle.std.proofs.Common.{refl, true, false, arith}
-use Rattle.readout.proofs.Identity.{place_fits, view_found, view_refused}
+use Rattle.readout.proofs.Identity.{place_fits, view_found}
 use Rattle.readout.proofs.identity_view.Goals as goal
 
-pub slice_bounds-result-end : goal.slice_bounds-result-end
-slice_bounds-result-end c = omega (arith, place_fits c.identity_place-f.ensures true c.if-f-eq1.true)
+pub slice_bounds-result-end-in-Live : goal.slice_bounds-result-end-in-Live
+slice_bounds-result-end-in-Live c = omega (arith, place_fits true (rw c.in-Live.is at c.in-Ok.ensures.accepted))
 
-pub returns-then-f-eq1 : goal.returns-then-f-eq1
-returns-then-f-eq1 c =
+pub returns-in-Live : goal.returns-in-Live
+returns-in-Live c =
     let x = c.args in
-    view_found x.live x.factory c.identity_place-f.ensures true c.if-f-eq1.true refl refl
+    view_found x.live x.factory true (rw c.in-Live.is at c.in-Ok.ensures.accepted) c.from-start.ensures c.from.ensures refl refl
 
-pub slice_bounds-result-end-then-f-eq2 : goal.slice_bounds-result-end-then-f-eq2
-slice_bounds-result-end-then-f-eq2 c = omega (arith, place_fits c.identity_place-f.ensures false c.if-f-eq2.true)
+pub slice_bounds-result-end-in-Factory : goal.slice_bounds-result-end-in-Factory
+slice_bounds-result-end-in-Factory c = omega (arith, place_fits false (rw c.in-Factory.is at c.in-Ok.ensures.accepted))
 
-pub returns-then-f-eq2 : goal.returns-then-f-eq2
-returns-then-f-eq2 c =
+pub returns-in-Factory : goal.returns-in-Factory
+returns-in-Factory c =
     let x = c.args in
-    view_found x.live x.factory c.identity_place-f.ensures false c.if-f-eq2.true refl refl
-
-pub returns : goal.returns
-returns c =
-    let x = c.args in
-    view_refused x.live x.factory c.identity_place-f.ensures c.if-f-eq1.false c.if-f-eq2.false refl
+    view_found x.live x.factory false (rw c.in-Factory.is at c.in-Ok.ensures.accepted) c.from-start.ensures c.from.ensures refl refl

@@ -13,15 +13,14 @@ use Rattle.record.proofs.count_of.Goals as goal
 pub returns : goal.returns
 unfolding Interrupt.count_of
 returns c =
-    let x = c.args in
-    let s = x.state.now in
-    let b = x.base.0 in
+    let s = c.args.state.now in
+    let b = c.args.base.place.0 in
     let g = count_pair (record_of s b) in
-    let high : c.count_beside-2.result ≡ sum (map (count_pair (λ k. at s (b + k))) (beside 6 6 17)) = rw c.index-first.ensures at c.count_beside-2.ensures.0 in
+    let high : c.count_beside-2.result ≡ sum (map (count_pair (λ k. at s (b + k))) (beside 6 6 17)) = rw c.from-first.ensures at c.count_beside-2.ensures.0 in
     rw (
       c.count_beside.ensures.0,
       high,
-      c.index-first.ensures,
+      c.from-first.ensures,
       count_record document01 s b 5 0 12 (lit≤ tt) (lit≤ tt),
       count_record document01 s b 6 6 17 (lit≤ tt) (lit≤ tt),
     )

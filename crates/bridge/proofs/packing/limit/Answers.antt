@@ -4,7 +4,7 @@ use Rattle.bridge.proofs.packing.Nothing.{none_is, no_limit}
 use Rattle.bridge.proofs.packing.limit.Goals as goal
 
 pub returns-in_default : goal.returns-in_default
-returns-in_default c = rw c.in-Given.is (no_limit _ c.args.which (omega arith))
+returns-in_default c = rw c.in-Ok.is (no_limit _ c.args.which (omega arith))
 
-pub returns-in-Refused : goal.returns-in-Refused
-returns-in-Refused c = cc none_is
+pub returns-in-Err : goal.returns-in-Err
+returns-in-Err c = rw c.in-Err.is none_is

@@ -5,4 +5,4 @@ use Rattle.eight_module.proofs.read.look.Goals as goal
 pub returns : goal.returns
 returns c =
     let x = c.args in
-    look_shown x.state.now x.base x.out.now x.a x.n c.requires.3 c.fill.ensures c.copy_part.ensures c.copy_part-2.ensures
+    rw (← c.record_of-base.ensures) (look_shown x.state.now c.record_of-base.result x.out.now x.run.first x.run.many c.requires c.fill.ensures c.copy_part.ensures c.copy_part-2.ensures)

@@ -1,9 +1,9 @@
 -- `eight_module::sample::join` meets its contract.
-use Rattle.std.proofs.Common.{◌∙◌}
+use Rattle.std.proofs.Common.{arith}
 use Rattle.eight_module.proofs.sample.Laws.{join_led}
 use Rattle.eight_module.proofs.sample.join.Goals as goal
 
 pub returns : goal.returns
 returns c =
     let x = c.args in
-    c.join.ensures ∙ join_led x.state.now x.bs x.to c.requires.0 c.requires.1 c.requires.2 c.requires.3
+    join_led x.state.now x.bytes _ x.to c.requires.0 c.requires.1 (omega arith) c.copy.ensures _ c.join.ensures

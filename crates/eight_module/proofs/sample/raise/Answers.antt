@@ -1,9 +1,13 @@
 -- `eight_module::sample::raise` meets its contract.
 use Rattle.std.proofs.Common.{arith}
+use Rattle.ports.specs.Ports.{caller}
+use Rattle.both.specs.Ports.{port_number}
+use Rattle.eight_module.proofs.Laws.{record_fits}
 use Rattle.eight_module.proofs.sample.Laws.{raise_both}
 use Rattle.eight_module.proofs.sample.raise.Goals as goal
 
 pub returns : goal.returns
 returns c =
     let x = c.args in
-    raise_both x.state.now _ _ x.cs x.os x.base (omega arith) c.join.ensures c.join-2.ensures
+    let f = record_fits (caller (port_number x.port)) in
+    rw (← c.record_of-base.ensures) (raise_both x.state.now _ _ x.cs x.os _ (omega arith) c.join.ensures c.join-2.ensures)

@@ -1,5 +1,5 @@
 -- `eight_module::write::accept` meets its contract.
-use Rattle.std.proofs.Common.{refl, rules}
+use Rattle.std.proofs.Common.{refl}
 use Rattle.ports.specs.Bytes.{state_of}
 use Rattle.ports.proofs.Taken.{write_relies}
 use Rattle.ports.proofs.Left.{write_done}
@@ -8,13 +8,10 @@ use Rattle.eight.proofs.Lawful.{lawful}
 use Rattle.eight_module.proofs.write.accept.Goals as goal
 
 pub write_bytes-requires : goal.write_bytes-requires
-write_bytes-requires c = let t = write_relies eight _ _ _ _ c.requires in search rules
-
-pub count_of-requires : goal.count_of-requires
-count_of-requires c = let t = write_relies eight _ _ _ _ c.requires in search rules
+write_bytes-requires c = (write_relies eight _ _ _ _ c.requires).inside
 
 pub returns : goal.returns
 unfolding state_of
 returns c =
     let x = c.args in
-    write_done eight lawful _ _ _ _ c.requires (written x.address x.bytes.now) refl _ _ _ c.record_of-base.ensures.0 c.write_bytes.ensures c.count_of.ensures
+    write_done eight lawful _ _ _ _ c.requires (written x.address x.bytes.now) refl _ _ _ refl c.write_bytes.ensures c.count_of.ensures

@@ -7,5 +7,5 @@ returns c =
     let x = c.args in
     let l = c.lower_lane.ensures in
     let p = c.page_lane.ensures in
-    memory_shown x.out.now x.run.first.0 x.run.many c.requires.3 x.state.now x.page c.requires.2
+    memory_shown x.out.now x.run.first.0 x.run.many c.requires x.state.now x.page.number x.run.fits
     (rw (l.0, l.1, l.2) at c.put_lane.ensures) (rw (p.0, p.1, p.2) at c.put_lane-2.ensures)

@@ -1,6 +1,23 @@
 -- `module::read::read` meets its contract.
+use Rattle.std.proofs.Common.{◌≡◌, ◌≢◌, rules, length, Err}
+use Rattle.refusal.specs.declared.Refusal.TheVariants.{StateSize}
+use Rattle.refusal.specs.Numbers.{number}
+use Rattle.refusal.proofs.Unique.{none_is_0}
+use Rattle.model.specs.Ports.{read}
 use Rattle.model.proofs.Outcomes.{read_refused}
+use Rattle.module.proofs.Calls.{size_refused}
 use Rattle.module.proofs.read.read.Goals as goal
 
-pub returns-then-refusal-ne0 : goal.returns-then-refusal-ne0
-returns-then-refusal-ne0 c = read_refused _ _ _ _ _ _ c.refusal_of-refusal.ensures c.if-refusal-ne0.true
+pub returns-in_err-state-clause-refused : goal.returns-in_err-state-clause-refused
+returns-in_err-state-clause-refused c =
+    let x = c.args in
+    let other : length x.state.now ≢ 688 = search rules in
+    let is : c.from_residual.result ≡ Err StateSize = search rules in
+    rw is (read_refused x.state.now x.port x.address x.count x.out.now 1 (size_refused x.state.now (read x.port x.address x.count x.out.now) other) (none_is_0 StateSize))
+
+pub returns-in_err-check-clause-refused : goal.returns-in_err-check-clause-refused
+returns-in_err-check-clause-refused c =
+    let x = c.args in
+    let same : c.in_ok-state.state.now ≡ x.state.now = search rules in
+    let is : c.from_residual-in_err-check.result ≡ Err c.in_err-check.field-0.0 = search rules in
+    rw (is, same) (read_refused x.state.now x.port x.address x.count x.out.now (number c.in_err-check.field-0.0) (rw same at c.in_err-check.ensures) (none_is_0 c.in_err-check.field-0.0))

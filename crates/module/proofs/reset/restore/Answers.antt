@@ -4,5 +4,5 @@ use Rattle.module.proofs.reset.restore.Goals as goal
 
 pub returns : goal.returns
 returns c =
-    rw (c.index-status.ensures, c.place_of.ensures.0, c.empty.ensures)
-    (restore_all c.args.state.now c.requires.0 c.args.image.now _ c.bring.ensures)
+    rw (c.from-status.ensures, c.place.ensures.0, c.empty.ensures)
+    (restore_all c.args.state.now c.told-state c.args.image.now _ c.bring.ensures)

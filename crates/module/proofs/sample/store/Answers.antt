@@ -7,6 +7,6 @@ use Rattle.module.proofs.sample.store.Goals as goal
 pub returns : goal.returns
 returns c =
     let s = c.args.state.now in
-    rw (c.index-status.ensures, c.place_of.ensures.0)
+    rw (c.from-status.ensures, c.place.ensures.0)
     (store_all (memory_of s) c.args.x.now s c.store_in-4.new.state
-    (rw (c.store_in-4.ensures, c.store_in-3.ensures, c.store_in-2.ensures, c.store_in.ensures, c.store_tx.ensures)) c.requires.0)
+    (rw (c.store_in-4.ensures, c.store_in-3.ensures, c.store_in-2.ensures, c.store_in.ensures, c.store_tx.ensures)) c.told-state)

@@ -1,30 +1,19 @@
--- `module::write::accept` meets its contract: that it is not refused gives the length, the page and the range that the callees ask for;
--- their bytes are then the model's.
-use Rattle.std.proofs.Common.{refl, arith, rules}
-use Rattle.module.proofs.write.Laws.{write_taken, write_first, write_done}
+-- `module::write::accept` meets its contract: that it is not refused gives the page and the range that the callees ask for; their bytes
+-- are then the model's.
+use Rattle.std.proofs.Common.{arith}
+use Rattle.module.proofs.write.Laws.{write_taken, write_done}
 use Rattle.module.proofs.write.accept.Goals as goal
 
 pub overflow_cast-address : goal.overflow_cast-address
-overflow_cast-address c =
-    let h = write_first c.args.state.now c.args.port c.args.address c.args.bytes.now c.requires in
-    search rules
+overflow_cast-address c = let t = write_taken _ _ _ _ c.requires in omega arith
 
-pub page_of-page-requires : goal.page_of-page-requires
-page_of-page-requires c =
-    let h = (write_taken c.args.state.now c.args.port c.args.address c.args.bytes.now c.requires).0 in
-    (omega arith, search rules)
+pub run_from-run-requires : goal.run_from-run-requires
+run_from-run-requires c = (write_taken _ _ _ _ c.requires).inside
 
-pub write_bytes-requires : goal.write_bytes-requires
-write_bytes-requires c =
-    let h = write_taken c.args.state.now c.args.port c.args.address c.args.bytes.now c.requires in
-    (h.0, rw (c.page_of-page.ensures, c.record_of-base.ensures.0) h.1, rw c.host.ensures h.2, refl)
-
-pub count_of-requires : goal.count_of-requires
-count_of-requires c =
-    let h = (write_taken c.args.state.now c.args.port c.args.address c.args.bytes.now c.requires).0 in
-    (omega arith, search rules)
+pub selected-page-requires : goal.selected-page-requires
+selected-page-requires c = rw c.record_of-base.ensures.0 (write_taken _ _ _ _ c.requires).whole
 
 pub returns : goal.returns
 returns c =
-    write_done c.args.state.now c.args.port c.args.address c.args.bytes.now c.requires c.write_bytes.new.state c.count_of.result
-    (rw (c.host.ensures, c.page_of-page.ensures, c.record_of-base.ensures.0) at c.write_bytes.ensures) (rw c.record_of-base.ensures.0 at c.count_of.ensures)
+    write_done _ _ _ _ c.requires c.write_bytes.new.state c.count_of.result
+    (rw (c.run_from-run.ensures.0, c.selected-page.ensures, c.record_of-base.ensures.0) at c.write_bytes.ensures) (rw c.record_of-base.ensures.0 at c.count_of.ensures)

@@ -1,25 +1,16 @@
 -- `module::write::write_bytes` meets its contract: after k turns the state is what the model's first k stores leave, each by the page
 -- that was selected before the call.
-use Rattle.std.proofs.Common.{refl, ◌∙◌, arith, rules}
+use Rattle.std.proofs.Common.{arith}
 use Rattle.model.specs.Ports.{caller}
-use Rattle.module.proofs.write.Laws.{puts_none, puts_next, puts_all}
+use Rattle.module.proofs.write.Laws.{puts_none, puts_next}
 use Rattle.module.proofs.write.write_bytes.Goals as goal
 
 pub loop-k-init : goal.loop-k-init
 loop-k-init c =
     let x = c.args in
-    (search rules, search rules, refl, puts_none x.state.now (caller x.port) x.page x.run.first.0 x.bytes.now (omega arith))
+    puts_none x.state.now (caller x.port) x.page.number x.run.first.0 x.bytes.now c.told-state
 
 pub loop-k-preserved : goal.loop-k-preserved
 loop-k-preserved c =
-    let x = c.args in (
-      search rules,
-      search rules,
-      search rules,
-      puts_next x.state.now (caller x.port) x.page x.run.first.0 x.bytes.now _ _ c.loop-k.k (omega arith) c.loop-k.invariant.3 (rw c.nth.ensures at c.write_byte.ensures),
-    )
-
-pub returns : goal.returns
-returns c =
     let x = c.args in
-    c.loop-k.invariant.3 ∙ puts_all x.state.now (caller x.port) x.page x.run.first.0 x.bytes.now c.loop-k.k (omega arith)
+    puts_next x.state.now (caller x.port) x.page.number x.run.first.0 x.bytes.now _ _ c.loop-k.k (omega arith) c.loop-k.invariant (rw c.nth.ensures at c.write_byte.ensures)

@@ -1,27 +1,9 @@
--- `readout::fields::trimmed` meets its contract: what is left of all the bytes is what is left of the first n, as all behind them are
--- blanks; at the first that is no blank it is n.
-use Rattle.std.proofs.Common.{◌≡◌, sym, ◌∙◌, ◌≢◌, ◌+◌, ◌-◌, eq-eqb, ne_eqb, rules, arith}
-use Rattle.laws.specs.Lists.{at}
-use Rattle.model.specs.Readout.{trimmed}
-use Rattle.readout.proofs.Identity.{trimmed_turn}
+-- `readout::fields::trimmed` meets its contract: behind the last byte that is no blank all are.
+use Rattle.std.proofs.Common.{arith}
+use Rattle.std.proofs.lemmas.Grind.{common_steps}
+use Rattle.readout.proofs.Trimmed.{trimmed_is}
 use Rattle.readout.proofs.fields.trimmed.Goals as goal
 
-pub returns-then-page-start-ne-BLANK : goal.returns-then-page-start-ne-BLANK
-returns-then-page-start-ne-BLANK c =
-    let l = c.loop-n in
-    let x = c.args in
-    let other : at x.page.now (x.start + (l.n - 1)) ≢ 0x20 = c.if-page-start-ne-BLANK.true in
-    sym (l.invariant.1 ∙ trimmed_turn _ _ _ (omega arith) ∙ rw (ne_eqb _ _ other))
-
-pub loop-n-preserved : goal.loop-n-preserved
-loop-n-preserved c =
-    let l = c.loop-n in
-    let x = c.args in
-    let blank : at x.page.now (x.start + (l.n - 1)) ≡ 0x20 = c.if-page-start-ne-BLANK.false in
-    (search rules, l.invariant.1 ∙ trimmed_turn _ _ _ (omega arith) ∙ rw (eq-eqb _ _ blank))
-
-pub returns : goal.returns
-unfolding trimmed
-returns c =
-    let none : c.loop-n.n ≡ 0 = omega arith in
-    sym (c.loop-n.invariant.1 ∙ rw none)
+pub returns-clause-left : goal.returns-clause-left
+returns-clause-left c =
+    trimmed_is c.map_or.result c.args.field.now _ (grind (arith, common_steps)) (grind (arith, common_steps)) (grind (arith, common_steps))

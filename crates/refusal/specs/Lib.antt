@@ -1,0 +1,2 @@
+pub mod Discriminants
+pub mod Numbers
