@@ -89,12 +89,11 @@ impl Register {
         }
     }
 
-    // Where a page's own 128 bytes have its first byte.
+    // Where a page's own 128 bytes have its first byte; at their front if it is in lower memory.
     pub fn in_page(self) -> usize
-        requires { page_size ≤ self.first }
         ensures { result ≡ self.first - page_size }
     {
-        usize::from(self.first) - super::PAGE_LEN
+        usize::from(self.first).saturating_sub(super::PAGE_LEN)
     }
 }
 

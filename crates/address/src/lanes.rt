@@ -7,7 +7,7 @@ ghost use Rattle.model.specs.Map.{page_size, paged, record_size, state_size};
 ghost use Rattle.moves.specs.Copied.{copied};
 ghost use Rattle.address.specs.Meaning.{length_of};
 
-use super::{Base, HostAddress, HostRun, Page, Place, Register, State, registers};
+use super::{Base, HostAddress, HostRun, Page, Place, Register, registers};
 
 // ---- lanes
 
@@ -92,15 +92,16 @@ pub fn own_lane(own: Own, base: Base) -> Lane
 // ---- what of a run of addresses a lane has
 
 // Puts what the lane has of a run into `out`, whose front stands for the run.
-pub fn put_lane(out: &mut [u8], run: HostRun, state: &State, lane: Lane)
-    requires { run.many ≤ length out.old }
+pub fn put_lane(out: &mut [u8], run: HostRun, state: &[u8], lane: Lane)
+    requires { (run.many ≤ length out.old) × (lane.from.0 + lane.hosts.many ≤ length state.now) }
     ensures { out.new ≡ patch 0 run.many (λ j. copied state.now lane.from.0 lane.hosts.first.0 lane.hosts.many (run.first.0 + j) (at out.old j)) out.old }
 {
     moves::copy_part(out, run.numbers(), state, lane.from.0, lane.hosts.numbers());
 }
 
 // Empties what the lane has of a run.
-pub fn clear_lane(state: &mut State, run: HostRun, lane: Lane)
+pub fn clear_lane(state: &mut [u8], run: HostRun, lane: Lane)
+    requires { lane.from.0 + lane.hosts.many ≤ length state.old }
     ensures { state.new ≡ patch lane.from.0 lane.hosts.many (λ k. if covers run.first.0 run.many (lane.hosts.first.0 + k) then 0 else at state.old (lane.from.0 + k)) state.old }
 {
     moves::fill_part(state, lane.from.0, lane.hosts.numbers(), run.numbers(), 0);

@@ -2,7 +2,7 @@
 // Proved: each function gives the definition of ports that its contract cites, whatever the module.
 #![tactic(auto)]
 
-ghost use Rattle.std.specs.Prelude.{◌≡◌, not, ◌||◌, [], ◌∷◌, map, ◌<◌, ◌≤◌, ◌+◌, ◌*◌, ltb, length};
+ghost use Rattle.std.specs.Prelude.{◌≡◌, not, ◌||◌, [], ◌∷◌, map, ◌<◌, ◌≤◌, ◌+◌, ◌*◌, eqb, ltb, length, IfOk};
 ghost use Rattle.std.specs.Int.Bits.{bit_and, bit_xor};
 ghost use Rattle.std.specs.Int.Count.{ones};
 ghost use Rattle.laws.specs.Tests.{first_of};
@@ -11,14 +11,14 @@ ghost use Rattle.ports.specs.Interrupt.{count_pair};
 ghost use Rattle.ports.specs.Modules.{miscounted, beyond, across};
 ghost use Rattle.refusal.specs.Numbers.{number_of};
 ghost use Rattle.both.specs.Beside.{beside};
-ghost use Rattle.both.specs.Ports.{IsPort};
+ghost use Rattle.both.specs.Ports.{port_number, IsPort};
 
 use refusal::Refusal;
 
 // ---- answers
 
 // Both ports' counts after a reset or a sample.
-#[derive(Clone, Copy, Debug, PartialEq, Eq)]
+#[derive(Clone, Copy, Debug, Default, PartialEq, Eq)]
 pub struct Counts {
     pub operator: u8,
     pub recorder: u8,
@@ -42,6 +42,18 @@ impl TryFrom<u64> for Port {
             1 => Ok(Port::Operator),
             2 => Ok(Port::Recorder),
             _ => Err(Refusal::NoSuchPort),
+        }
+    }
+}
+
+// The number that a caller says.
+impl From<Port> for u64 {
+    ghost from_gives = { λ port n. n ≡ port_number port };
+
+    fn from(port: Port) -> u64 {
+        match port {
+            Port::Operator => 1,
+            Port::Recorder => 2,
         }
     }
 }
@@ -88,17 +100,19 @@ pub fn check_write(reach: u64, address: u64, n: usize) -> Result<(), Refusal>
     Ok(())
 }
 
-// The refusals 3 and 8 of a sample: by whether each record is sound, and whether the sample has its length.
-pub fn check_sample(first: bool, second: bool, right: bool) -> Result<(), Refusal>
-    ensures { number_of result ≡ first_of ((3, not first || not second) ∷ (8, not right) ∷ []) }
+// Bytes as a sample of `N`, or the refusals 3 and 8 of one: by whether each record is sound, and whether the bytes are that many.
+pub fn check_sample<const N: usize>(
+    first: bool,
+    second: bool,
+    bytes: &[u8],
+) -> Result<&[u8; N], Refusal>
+    ensures refusal { number_of result ≡ first_of ((3, not first || not second) ∷ (8, not (eqb (length bytes.now) N)) ∷ []) }
+    ensures same { IfOk result (λ x. x.now ≡ bytes.now) }
 {
     if !first | !second {
         return Err(Refusal::UnsoundRecord);
     }
-    if right {
-        return Ok(());
-    }
-    Err(Refusal::SampleSize)
+    bytes.as_array().ok_or(Refusal::SampleSize)
 }
 
 // ---- the count
@@ -124,11 +138,13 @@ pub fn count_beside(state: &[u8], base: usize, pairs: Pairs) -> u8
     requires { (base + (pairs.flags + pairs.many) ≤ length state.now) × (base + (pairs.masks + pairs.many) ≤ length state.now) }
     ensures { (result ≡ sum (map (count_pair (λ k. at state.now (base + k))) (beside pairs.many pairs.flags pairs.masks))) × (result ≤ 8 * pairs.many) }
 {
-    let first = base + pairs.flags;
-    let flags = &state[first..first + pairs.many];
+    let flags_at = base + pairs.flags;
+    let masks_at = base + pairs.masks;
+    let flags = &state[flags_at..flags_at + pairs.many];
+    let masks = &state[masks_at..masks_at + pairs.many];
     let mut count: u8 = 0;
-    for (j, byte) in flags.iter().enumerate() {
-        count += let_by(*byte, state[base + (pairs.masks + j)]);
+    for (flag, mask) in flags.iter().zip(masks) {
+        count += let_by(*flag, *mask);
     }
     count
 }

@@ -1,6 +1,6 @@
 // The sample, on lent memory.
 // Proved: for every state and sample, the refusal, both counts and the bytes left are those of the definitions.
-ghost use Rattle.std.specs.Prelude.{◌≡◌, length, ◌≤◌, ◌+◌, IfOk, IfErr};
+ghost use Rattle.std.specs.Prelude.{◌≡◌, length, drop, ◌≤◌, ◌+◌, IfOk, IfErr};
 ghost use Rattle.std.specs.Int.Bits.{bit_or, bit_and, bit_xor};
 ghost use Rattle.laws.specs.Lists.{at, table, patch};
 ghost use Rattle.ports.specs.Ports.{sample, caller};
@@ -26,45 +26,61 @@ fn check<'a>(state: &State, x: &'a [u8]) -> Result<&'a Bytes, Refusal>
     ensures refusal { number_of result ≡ refusal_of eight state.now (sample x.now) }
     ensures found { IfOk result (λ y. y.now ≡ x.now) }
 {
-    if !super::is_sound(state, Port::Operator) | !super::is_sound(state, Port::Recorder) {
-        return Err(Refusal::UnsoundRecord);
-    }
-    x.as_array().ok_or(Refusal::SampleSize)
+    let operator = super::is_sound(state, Port::Operator);
+    let recorder = super::is_sound(state, Port::Recorder);
+    both::check_sample(operator, recorder, x)
 }
 
-// The conditions of a sample, its bits that are flags.
-fn conditions(x: &Bytes) -> Bytes
-    ensures { result ≡ table 14 (conditions x.now) }
-{
-    array::from_fn(|k| x[k] & super::FLAG_BITS[k])
+// Fourteen bytes, a flag byte's each, behind two zeros: so sixteen places are joined at once, and the two before a run stay as they are.
+#[derive(Clone, Copy)]
+struct Led {
+    bytes: [u8; LED],
+    ghost lead: { (at bytes 0 ≡ 0) × (at bytes 1 ≡ 0) },
 }
 
-// Those of the conditions `cs` that have their onset: absent in the accepted sample before.
-fn onsets(state: &State, cs: Bytes) -> Bytes
-    ensures { result ≡ table 14 (λ i. bit_xor (at cs i) (bit_and (at cs i) (at state.now i))) }
-{
-    array::from_fn(|k| cs[k] ^ (cs[k] & state[k]))
-}
-
-// Two zeros before the bytes: so sixteen places are joined at once, and the two before the run stay as they are. Without them a sample takes
-// more than its 300 instructions.
 const LEAD: usize = 2;
 
 const LED: usize = LEAD + super::MANY;
 
-// Joins `bytes` to the run of places from `to` on.
-fn join(state: &mut State, to: usize, bytes: Bytes)
-    requires { (2 ≤ to) × (to + 14 ≤ length state.old) }
-    ensures { state.new ≡ patch to 14 (λ j. bit_or (at state.old (to + j)) (at bytes j)) state.old }
+// The conditions of a sample, its bits that are flags.
+fn conditions(x: &Bytes) -> Led
+    ensures { drop 2 result.bytes ≡ table 14 (conditions x.now) }
 {
-    let mut led = [0; LED];
-    moves::copy(&mut led, LEAD, &bytes);
-    moves::join(state, to - LEAD, &led);
+    let bytes = array::from_fn(|k| {
+        if k < LEAD {
+            0
+        } else {
+            x[k - LEAD] & super::FLAG_BITS[k - LEAD]
+        }
+    });
+    Led { bytes }
+}
+
+// Those of the conditions `cs` that have their onset: absent in the accepted sample before.
+fn onsets(state: &State, cs: Led) -> Led
+    ensures { drop 2 result.bytes ≡ table 14 (λ i. let c = at (drop 2 cs.bytes) i in bit_xor c (bit_and c (at state.now i))) }
+{
+    let bytes = array::from_fn(|k| {
+        if k < LEAD {
+            0
+        } else {
+            cs.bytes[k] ^ (cs.bytes[k] & state[k - LEAD])
+        }
+    });
+    Led { bytes }
+}
+
+// Joins the fourteen bytes to the run of places from `to` on.
+fn join(state: &mut State, to: usize, led: Led)
+    requires { (2 ≤ to) × (to + 14 ≤ length state.old) }
+    ensures { state.new ≡ patch to 14 (λ j. bit_or (at state.old (to + j)) (at (drop 2 led.bytes) j)) state.old }
+{
+    moves::join(state, to - LEAD, &led.bytes);
 }
 
 // Raises the conditions `cs` and marks the onsets `os` as pending in the record of `port`.
-fn raise(state: &mut State, port: Port, cs: Bytes, os: Bytes)
-    ensures { let b = base eight (caller (port_number port)) in state.new ≡ patch b record_size (λ k. joined cs os k (at state.old (b + k))) state.old }
+fn raise(state: &mut State, port: Port, cs: Led, os: Led)
+    ensures { let b = base eight (caller (port_number port)) in state.new ≡ patch b record_size (λ k. joined (drop 2 cs.bytes) (drop 2 os.bytes) k (at state.old (b + k))) state.old }
 {
     let base = super::record_of(port);
     join(state, base + super::FLAGS_IN, cs);
@@ -78,7 +94,7 @@ fn accept(state: &mut State, x: &Bytes) -> Counts
 {
     let cs = conditions(x);
     let os = onsets(state, cs);
-    moves::copy(state, super::MEMORY, &cs);
+    moves::copy(state, super::MEMORY, &cs.bytes[LEAD..]);
     raise(state, Port::Operator, cs, os);
     raise(state, Port::Recorder, cs, os);
     Counts {

@@ -51,7 +51,8 @@ fn check(state: &State, port: u64, address: u64, bytes: &[u8]) -> Result<Port, R
 fn write_byte(state: &mut State, port: Port, a: usize, v: u8)
     ensures { state.new ≡ (if within masks a then set state.old (base eight (caller (port_number port)) + mask_of (a - masks.first)) (bit_and v (at mask_bits (a - masks.first))) else state.old) }
 {
-    if (super::MASKS.first <= a) & (a < super::MASKS.first + super::MASKS.many) {
+    let masks = super::MASKS.first..super::MASKS.first + super::MASKS.many;
+    if masks.contains(&a) {
         let i = a - super::MASKS.first;
         state[super::record_of(port) + (super::MASKS_IN + i)] = v & super::MASK_BITS[i];
     }

@@ -10,19 +10,23 @@ ghost use Rattle.model.specs.Reading.{status_byte, seen};
 ghost use Rattle.model.specs.Bytes.{memory_of, record_of, refusal_of};
 ghost use Rattle.model.specs.Outcomes.{ReadDone};
 ghost use Rattle.refusal.specs.Numbers.{number, number_of};
+ghost use Rattle.both.specs.Ports.{port_number};
 ghost use Rattle.address.specs.Meaning.{stored_at};
 ghost use Rattle.module.specs.Own.{own_seen};
 
 use address::{Base, HostRun, Own, Page, State, registers};
+use both::Port;
 use moves::Part;
 use refusal::Refusal;
 
-// The refusals of a read.
-fn check(state: &State, port: u64, address: u64, count: u64, out: &[u8]) -> Result<(), Refusal>
-    ensures { number_of result ≡ refusal_of state.now (read port address count out.now) }
+// The port that reads, or why it may not.
+fn check(state: &State, port: u64, address: u64, count: u64, out: &[u8]) -> Result<Port, Refusal>
+    ensures refusal { number_of result ≡ refusal_of state.now (read port address count out.now) }
+    ensures found { IfOk result (λ p. port_number p ≡ port) }
 {
-    record::caller(state, port)?;
-    both::check_read(address::HOSTS, address, count, out.len())
+    let port = record::caller(state, port)?;
+    both::check_read(address::HOSTS, address, count, out.len())?;
+    Ok(port)
 }
 
 // ---- what is shown: the bytes of a run of addresses, at the front of `out`
@@ -96,12 +100,12 @@ fn look(out: &mut [u8], run: HostRun, state: &State, base: Base)
 // ---- the call
 
 // An accepted read: the bytes out, then the flags of the run cleared for this port alone, then its count.
-fn accept(state: &mut State, port: u64, address: u64, count: u64, out: &mut [u8]) -> u8
-    requires { refusal_of state.old (read port address count out.old) ≡ 0 }
-    ensures { ReadDone state.old port address count out.old 0 result state.new out.new }
+fn accept(state: &mut State, port: Port, address: u64, count: u64, out: &mut [u8]) -> u8
+    requires { refusal_of state.old (read (port_number port) address count out.old) ≡ 0 }
+    ensures { ReadDone state.old (port_number port) address count out.old 0 result state.new out.new }
 {
     let run = address::run_from(address as u8, count as usize);
-    let base = address::record_of(port);
+    let base = address::record_of(u64::from(port));
     look(out, run, state, base);
     record::clear(state, base, run);
     record::count_of(state, base)
@@ -119,6 +123,6 @@ pub fn read(
     ensures refused { IfErr result (λ r. ReadDone state.old port address count out.old (number r) 0 state.new out.new) }
 {
     let state = state.as_mut_array().ok_or(Refusal::StateSize)?;
-    check(state, port, address, count, out)?;
+    let port = check(state, port, address, count, out)?;
     Ok(accept(state, port, address, count, out))
 }

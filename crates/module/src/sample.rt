@@ -22,8 +22,7 @@ fn check<'a>(state: &State, bytes: &'a [u8]) -> Result<&'a Sample, Refusal>
 {
     let first = record::is_sound(state, address::record_of(1));
     let second = record::is_sound(state, address::record_of(2));
-    both::check_sample(first, second, bytes.len() == alarms::SAMPLE_LEN)?;
-    bytes.as_array().ok_or(Refusal::SampleSize)
+    both::check_sample(first, second, bytes)
 }
 
 // Stores in a register the sample's bytes from `from` on.

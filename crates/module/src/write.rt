@@ -9,8 +9,10 @@ ghost use Rattle.model.specs.Writing.{store, puts};
 ghost use Rattle.model.specs.Bytes.{memory_of, record_of, state_of, bytes_of, refusal_of};
 ghost use Rattle.model.specs.Outcomes.{WriteDone};
 ghost use Rattle.refusal.specs.Numbers.{number, number_of};
+ghost use Rattle.both.specs.Ports.{port_number};
 
 use address::{HostAddress, HostRun, Page, Slot, State};
+use both::Port;
 use refusal::Refusal;
 
 // ---- refusals
@@ -30,17 +32,21 @@ fn are_mine(page: Page, run: HostRun) -> bool
 }
 
 // Whether a recorder's write touches a byte not its own.
-fn is_foreign(state: &State, port: u64, run: HostRun) -> bool
-    requires { sound (memory_of state.now) (record_of state.now (base (caller port))) ≡ true }
-    ensures { result ≡ foreign (state_of state.now) port run.first.0 run.many }
+fn is_foreign(state: &State, port: Port, run: HostRun) -> bool
+    requires { sound (memory_of state.now) (record_of state.now (base (caller (port_number port)))) ≡ true }
+    ensures { result ≡ foreign (state_of state.now) (port_number port) run.first.0 run.many }
 {
-    port != 1 && !are_mine(record::selected(state, address::record_of(port)), run)
+    port == Port::Recorder
+        && !are_mine(
+            record::selected(state, address::record_of(u64::from(port))),
+            run,
+        )
 }
 
 // The refusals 4, 5 and 7 of a write of `n` bytes.
-fn check_run(state: &State, port: u64, address: u64, n: usize) -> Result<(), Refusal>
-    requires { sound (memory_of state.now) (record_of state.now (base (caller port))) ≡ true }
-    ensures { number_of result ≡ first_of (write_rows (state_of state.now) port address n) }
+fn check_run(state: &State, port: Port, address: u64, n: usize) -> Result<(), Refusal>
+    requires { sound (memory_of state.now) (record_of state.now (base (caller (port_number port)))) ≡ true }
+    ensures { number_of result ≡ first_of (write_rows (state_of state.now) (port_number port) address n) }
 {
     both::check_write(address::HOSTS, address, n)?;
     if is_foreign(state, port, address::run_from(address as u8, n)) {
@@ -49,20 +55,23 @@ fn check_run(state: &State, port: u64, address: u64, n: usize) -> Result<(), Ref
     Ok(())
 }
 
-// The refusals of a write.
-fn check(state: &State, port: u64, address: u64, bytes: &[u8]) -> Result<(), Refusal>
-    ensures { number_of result ≡ refusal_of state.now (write port address bytes.now) }
+// The port that writes, or why it may not.
+fn check(state: &State, port: u64, address: u64, bytes: &[u8]) -> Result<Port, Refusal>
+    ensures refusal { number_of result ≡ refusal_of state.now (write port address bytes.now) }
+    ensures found { IfOk result (λ p. port_number p ≡ port) }
 {
-    record::caller(state, port)?;
-    check_run(state, port, address, bytes.len())
+    let port = record::caller(state, port)?;
+    check_run(state, port, address, bytes.len())?;
+    Ok(port)
 }
 
 // ---- the bytes
 
 // One byte of a write by a port with `page` selected.
-fn write_byte(state: &mut State, port: u64, page: Page, a: HostAddress, v: u8)
-    ensures { state.new ≡ bytes_of (store (state_of state.old) (caller port) v (seat page.number a.0)) }
+fn write_byte(state: &mut State, port: Port, page: Page, a: HostAddress, v: u8)
+    ensures { state.new ≡ bytes_of (store (state_of state.old) (caller (port_number port)) v (seat page.number a.0)) }
 {
+    let port = u64::from(port);
     match address::translate(a, page) {
         Slot::Mine(k) => {
             record::enter(
@@ -80,9 +89,9 @@ fn write_byte(state: &mut State, port: u64, page: Page, a: HostAddress, v: u8)
 }
 
 // The bytes of a write, one after the other; `page` is the page selected before the call.
-fn write_bytes(state: &mut State, port: u64, page: Page, run: HostRun, bytes: &[u8])
+fn write_bytes(state: &mut State, port: Port, page: Page, run: HostRun, bytes: &[u8])
     requires { length bytes.now ≡ run.many }
-    ensures { state.new ≡ bytes_of (puts (state_of state.old) (caller port) page.number run.first.0 bytes.now) }
+    ensures { state.new ≡ bytes_of (puts (state_of state.old) (caller (port_number port)) page.number run.first.0 bytes.now) }
 {
     for (k, byte) in bytes.iter().enumerate() {
         write_byte(state, port, page, run.nth(k), *byte);
@@ -90,12 +99,12 @@ fn write_bytes(state: &mut State, port: u64, page: Page, run: HostRun, bytes: &[
 }
 
 // An accepted write, and the port's count after it.
-fn accept(state: &mut State, port: u64, address: u64, bytes: &[u8]) -> u8
-    requires { refusal_of state.old (write port address bytes.now) ≡ 0 }
-    ensures { WriteDone state.old port address bytes.now 0 result state.new }
+fn accept(state: &mut State, port: Port, address: u64, bytes: &[u8]) -> u8
+    requires { refusal_of state.old (write (port_number port) address bytes.now) ≡ 0 }
+    ensures { WriteDone state.old (port_number port) address bytes.now 0 result state.new }
 {
     let run = address::run_from(address as u8, bytes.len());
-    let base = address::record_of(port);
+    let base = address::record_of(u64::from(port));
     let page = record::selected(state, base);
     write_bytes(state, port, page, run, bytes);
     record::count_of(state, base)
@@ -107,6 +116,6 @@ pub fn write(state: &mut [u8], port: u64, address: u64, bytes: &[u8]) -> Result<
     ensures refused { IfErr result (λ r. WriteDone state.old port address bytes.now (number r) 0 state.new) }
 {
     let state = state.as_mut_array().ok_or(Refusal::StateSize)?;
-    check(state, port, address, bytes)?;
+    let port = check(state, port, address, bytes)?;
     Ok(accept(state, port, address, bytes))
 }

@@ -25,7 +25,9 @@ pub fn fill(dst: &mut [u8], to: usize, n: usize, v: u8)
     ensures { dst.new ≡ patch to n (λ j. v) dst.old }
 {
     let end = to + n;
-    dst[to..end].fill(v);
+    for place in &mut dst[to..end] {
+        *place = v;
+    }
 }
 
 // Adds the bits of `src` to the places of `dst` from `to` on.

@@ -79,7 +79,7 @@ pub fn is_sound(state: &State, base: Base) -> bool
 // The port that calls, or the refusals 1 to 3 of any call by a port.
 pub fn caller(state: &[u8], port: u64) -> Result<Port, Refusal>
     ensures refusal { number_of result ≡ first_of ((1, wrong_size state.now) ∷ port_rows (state_of state.now) port) }
-    ensures number { IfOk result (λ p. port_number p ≡ port) }
+    ensures found { IfOk result (λ p. port_number p ≡ port) }
 {
     let state = state
         .as_array::<{ address::STATE_LEN }>()

@@ -4,7 +4,7 @@
 #![tactic(auto)]
 
 ghost use Rattle.std.specs.Prelude.{◌≡◌};
-ghost use Rattle.refusal.specs.Numbers.{number};
+ghost use Rattle.refusal.specs.Numbers.{number, number_of};
 
 use std::error::Error;
 use std::fmt;
@@ -35,6 +35,13 @@ impl From<Refusal> for u8 {
     fn from(refusal: Refusal) -> u8 {
         refusal as u8
     }
+}
+
+// The number of an answer's refusal, 0 where it is none.
+pub fn code<T: Drop>(answer: Result<T, Refusal>) -> u8
+    ensures { result ≡ number_of answer }
+{
+    answer.map_or_else(u8::from, |_| 0)
 }
 
 impl fmt::Display for Refusal {

@@ -12,7 +12,9 @@ use Prim.Native.Nat.{ℕ, zero, suc, ◌+◌, ◌-◌, ◌≤◌, ◌<◌}
 use native.Mathlib.Omega.{arith}
 use lib.Bits.{bit_or, bit_and, bit_xor, or_zero_r}
 use lib.Dec.{eqb, ltb}
-use lib.ListN.{length, replicate, length-replicate, get_or-replicate}
+use lib.ListN.{length, take, drop}
+use Rattle.std.proofs.lemmas.List.{length-drop, take_all}
+use lib.Seq.{get_or-drop}
 use borrow.Author.Tests.{eqb-true, eqb-false, eq-eqb, ne_eqb, ltb-true, ltb-false, lt-ltb, le-ltb}
 use denote.Param.Members.{Mut}
 use Rattle.std.specs.Array.{IsFromFnResultFrom, IsFromFnResult, IsWholeChunk}
@@ -21,6 +23,7 @@ use Rattle.laws.specs.Tests.{first_of, covers}
 use Rattle.laws.specs.Lists.{at, table, patch}
 use Rattle.laws.proofs.Tests.{case, covers_in, covers_below, covers_true}
 use Rattle.laws.proofs.Lists.{table_at, is_table, patch_length, patch_at, patch_in, patch_below, patch_above, patch_else, is_patch}
+use Rattle.laws.proofs.Parts.{table_same}
 use Rattle.laws.proofs.Fronts.{front_in}
 use Rattle.ports.specs.Ports.{Port, operator, recorder, Places, sample}
 use Rattle.ports.specs.Modules.{base, state_size}
@@ -38,13 +41,6 @@ use Rattle.refusal.specs.declared.Refusal.TheVariants.{SampleSize}
 use Rattle.eight_module.specs.Joined.{joined}
 use Rattle.eight_module.proofs.Laws.{two_runs, second_run}
 
--- ---- refusal 8, as `as_array` finds the sample's length
-
-pub sized : (x : List ℕ) (n : ℕ) (o : Option (Bor (List ℕ))) → MatchOption o (length x ≢ n) (λ y. IsWholeChunk x y.now n)
-    → number_of (ok_or o SampleSize) ≡ first_of ((8, not (eqb (length x) n)) ∷ [])
-sized x n None d = rw (ne_eqb (length x) n d)
-sized x n (Some y) d = rw (eq-eqb (length x) n d.long)
-
 -- ---- the elements that a function gives which changes nothing
 
 each_made : {F : Type 0} (g : Mut F (ℕ × Unit {0}) ℕ) (f : F) (h : ℕ → ℕ) (ys : List ℕ) (n i : ℕ) → ActsAs g f h → IsFromFnResultFrom g f ys i n
@@ -61,39 +57,52 @@ each_made g f h ys (suc n) i acts e j l =
 pub all_made : {F : Type 0} {g : Mut F (ℕ × Unit {0}) ℕ} {f : F} {ys : List ℕ} {n : ℕ} (h : ℕ → ℕ) → ActsAs g f h → IsFromFnResult g f ys n → ys ≡ table n h
 all_made {F} {g} {f} {ys} {n} h acts r = is_table ys n h r.long (λ i l. let z : 0 + i ≡ i = omega arith in rw z at (each_made g f h ys n 0 acts r.each i l))
 
--- ---- fourteen bytes behind two zeros, joined from two places before: these stay as they are
+-- ---- fourteen bytes behind two zeros, of which each is made by a function of its place among the sixteen
 
-module _ (s bs led : List ℕ) (b : ℕ) (low : 2 ≤ b) (room : b + 14 ≤ length s) (many : length bs ≡ 14) (copied : led ≡ patch 2 (length bs) (at bs) (replicate 16 0)) where
-  e : led ≡ patch 2 14 (at bs) (replicate 16 0)
-  e = rw many at copied
+pub led_made : {F : Type 0} {g : Mut F (ℕ × Unit {0}) ℕ} {c : F} {ys : List ℕ} (h f : ℕ → ℕ) → ActsAs g c h → IsFromFnResult g c ys 16
+    → ((k : ℕ) → k < 14 → h (k + 2) ≡ f k) → drop 2 ys ≡ table 14 f
+unfolding table
+led_made h f acts r same =
+    rw (all_made h acts r) (table_same 14 (λ k. h (suc (suc k))) f (λ k l. let z : suc (suc k) ≡ k + 2 = omega arith in rw z (same k l)))
 
-  long : length {A = ℕ} (replicate 16 0) ≡ 16
-  long = length-replicate {A = ℕ} 16 0
+pub led_lead : {F : Type 0} {g : Mut F (ℕ × Unit {0}) ℕ} {c : F} {ys : List ℕ} (h : ℕ → ℕ) → ActsAs g c h → IsFromFnResult g c ys 16
+    → h 0 ≡ 0 → h 1 ≡ 0 → (at ys 0 ≡ 0) × (at ys 1 ≡ 0)
+unfolding table
+led_lead h acts r first second = rw (all_made h acts r) (first, second)
 
-  lead : (k : ℕ) → k < 2 → at led k ≡ 0
-  lead k l = let n = long in rw e (patch_below 2 14 (at bs) (replicate 16 0) k (omega arith) l ∙ get_or-replicate 16 k 0 0 (omega arith))
+-- what stands behind the lead
+pub led_at : (bs : List ℕ) (j : ℕ) → at (drop 2 bs) j ≡ at bs (j + 2)
+led_at bs j = let z : j + 2 ≡ 2 + j = omega arith in rw z (get_or-drop 2 bs j 0)
 
-  behind : (j : ℕ) → j < 14 → at led (2 + j) ≡ at bs j
-  behind j l = let n = long in rw e (patch_in 2 14 (at bs) (replicate 16 0) j l (omega arith))
+-- copied to the front
+pub led_copied : (s bs : List ℕ) → length bs ≡ 16
+    → patch 0 (length (take (length bs - 2) (drop 2 bs))) (at (take (length bs - 2) (drop 2 bs))) s ≡ patch 0 14 (at (drop 2 bs)) s
+led_copied s bs many =
+    let n : length (drop 2 bs) ≡ 14 = omega (arith, length-drop 2 bs) in
+    rw (many, take_all 14 (drop 2 bs) (omega arith), n)
 
-  f : ℕ → ℕ
-  f j = bit_or (at s (b - 2 + j)) (at led j)
+-- ---- joined from two places before: these stay as they are
 
-  pub join_led : (t : List ℕ) → t ≡ patch (b - 2) (length led) (λ j. bit_or (at s (b - 2 + j)) (at led j)) s → t ≡ patch b 14 (λ j. bit_or (at s (b + j)) (at bs j)) s
-  unfolding f
-  join_led t d =
-      let n : length led ≡ 16 = ap length e ∙ patch_length 2 14 (at bs) (replicate 16 0) ∙ long in
-      rw n at d ∙
-      is_patch b 14 (λ j. bit_or (at s (b + j)) (at bs j)) s (patch (b - 2) 16 f s) (patch_length (b - 2) 16 f s)
-      (λ j l h. let z : b - 2 + (2 + j) ≡ b + j = omega arith in rw (behind j l) at (rw z at (patch_in (b - 2) 16 f s (2 + j) (omega arith) (rw z h))))
-      (λ i h no. patch_at (b - 2) 16 f s i h ∙ case (covers (b - 2) 16 i)
-      (λ t. let r = covers_true (b - 2) 16 i t in let u = r.0 in let v = r.1 in
-      let z : b - 2 + (i - (b - 2)) ≡ i = omega arith in
-      rw (t, z, lead (i - (b - 2)) (before i no u v)) (or_zero_r (at s i)))
-      (λ t. rw t))
-    where
-      before : (i : ℕ) → (b ≤ i → i < b + 14 → ⊥) → b - 2 ≤ i → i < b - 2 + 16 → i - (b - 2) < 2
-      before i out u v = case (ltb i b) (λ t. let l = ltb-true i b t in omega arith) (λ t. absurd (out (ltb-false i b t) (omega arith)))
+pub join_led : (s bs : List ℕ) (b : ℕ) → 2 ≤ b → b + 14 ≤ length s → length bs ≡ 16 → at bs 0 ≡ 0 → at bs 1 ≡ 0
+    → patch (b - 2) (length bs) (λ j. bit_or (at s (b - 2 + j)) (at bs j)) s ≡ patch b 14 (λ j. bit_or (at s (b + j)) (at (drop 2 bs) j)) s
+join_led s bs b low room many none₀ none₁ =
+    rw many
+    (is_patch b 14 (λ j. bit_or (at s (b + j)) (at (drop 2 bs) j)) s (patch (b - 2) 16 f s) (patch_length (b - 2) 16 f s)
+    (λ j l h. let z : b - 2 + (2 + j) ≡ b + j = omega arith in rw (get_or-drop 2 bs j 0) (rw z at (patch_in (b - 2) 16 f s (2 + j) (omega arith) (rw z h))))
+    (λ i h no. patch_at (b - 2) 16 f s i h ∙ case (covers (b - 2) 16 i)
+    (λ t. let r = covers_true (b - 2) 16 i t in let u = r.0 in let v = r.1 in
+    let z : b - 2 + (i - (b - 2)) ≡ i = omega arith in
+    rw (t, z, lead (i - (b - 2)) (before i no u v)) (or_zero_r (at s i)))
+    (λ t. rw t)))
+  where
+    f : ℕ → ℕ
+    f j = bit_or (at s (b - 2 + j)) (at bs j)
+
+    before : (i : ℕ) → (b ≤ i → i < b + 14 → ⊥) → b - 2 ≤ i → i < b - 2 + 16 → i - (b - 2) < 2
+    before i out u v = case (ltb i b) (λ t. let l = ltb-true i b t in omega arith) (λ t. absurd (out (ltb-false i b t) (omega arith)))
+
+    lead : (k : ℕ) → k < 2 → at bs k ≡ 0
+    lead k l = case (eqb k 0) (λ t. rw (eqb-true k 0 t) none₀) (λ t. let d = eqb-false k 0 t in let z : k ≡ 1 = omega arith in rw z none₁)
 
 -- ---- one record raised
 

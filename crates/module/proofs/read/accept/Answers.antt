@@ -17,7 +17,7 @@ pub look-requires-clause-room : goal.look-requires-clause-room
 look-requires-clause-room c = rw c.run_from-run.ensures.1 (read_taken _ _ _ _ _ _ c.requires refl).fits
 
 pub look-requires-clause-record_sound : goal.look-requires-clause-record_sound
-look-requires-clause-record_sound c = (read_taken _ _ _ _ _ _ c.requires c.record_of-base.ensures.0).whole
+look-requires-clause-record_sound c = (read_taken _ _ _ _ _ _ c.requires (rw c.from.ensures at c.record_of-base.ensures.0)).whole
 
 pub returns : goal.returns
 returns c =
@@ -26,4 +26,4 @@ returns c =
     let b : ℕ = c.record_of-base.result.place.0 in
     let r = c.run_from-run.ensures in
     let shown : c.look.new.out ≡ patch 0 x.count (λ j. seen (memory_of s) (record_of s b) (x.address + j)) x.out.now = rw (r.0, r.1) at c.look.ensures in
-    read_done s _ _ _ _ b c.requires c.record_of-base.ensures.0 _ _ _ (rw (r.0, r.1) at c.clear.ensures) c.count_of.ensures shown
+    read_done s _ _ _ _ b c.requires (rw c.from.ensures at c.record_of-base.ensures.0) _ _ _ (rw (r.0, r.1) at c.clear.ensures) c.count_of.ensures shown

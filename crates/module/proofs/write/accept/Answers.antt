@@ -11,9 +11,9 @@ pub run_from-run-requires : goal.run_from-run-requires
 run_from-run-requires c = (write_taken _ _ _ _ c.requires).inside
 
 pub selected-page-requires : goal.selected-page-requires
-selected-page-requires c = rw c.record_of-base.ensures.0 (write_taken _ _ _ _ c.requires).whole
+selected-page-requires c = rw (c.record_of-base.ensures.0, c.from.ensures) (write_taken _ _ _ _ c.requires).whole
 
 pub returns : goal.returns
 returns c =
     write_done _ _ _ _ c.requires c.write_bytes.new.state c.count_of.result
-    (rw (c.run_from-run.ensures.0, c.selected-page.ensures, c.record_of-base.ensures.0) at c.write_bytes.ensures) (rw c.record_of-base.ensures.0 at c.count_of.ensures)
+    (rw (c.run_from-run.ensures.0, c.selected-page.ensures, c.record_of-base.ensures.0, c.from.ensures) at c.write_bytes.ensures) (rw (c.record_of-base.ensures.0, c.from.ensures) at c.count_of.ensures)

@@ -9,20 +9,27 @@ use Rattle.refusal.proofs.Unique.{none_is_0}
 use Rattle.module.proofs.Calls.{port_refused, port_accepted, port_sound}
 use Rattle.module.proofs.write.check.Goals as goal
 
-pub returns-in_err-caller : goal.returns-in_err-caller
-unfolding Bytes.refusal_of Bytes.rows_of Modules.rows
-returns-in_err-caller c =
-    let x = c.args in
-    let s = x.state.now in
-    let told : number_of c.from_residual.result ≡ number c.in_err-caller.field-0.0 = search rules in
-    told ∙ port_refused s x.port (write_rows (state_of s) x.port x.address (length x.bytes.now)) c.in_err-caller.ensures.refusal (none_is_0 _)
-
 pub check_run-requires : goal.check_run-requires
-check_run-requires c = port_sound c.args.state.now c.args.port c.in_ok-caller.ensures.refusal
+check_run-requires c = rw c.in_ok-port.ensures.found (port_sound c.args.state.now c.args.port c.in_ok-port.ensures.refusal)
 
-pub returns : goal.returns
+pub returns-in_err-port-clause-refusal : goal.returns-in_err-port-clause-refusal
 unfolding Bytes.refusal_of Bytes.rows_of Modules.rows
-returns c =
+returns-in_err-port-clause-refusal c =
     let x = c.args in
     let s = x.state.now in
-    port_accepted s x.port (write_rows (state_of s) x.port x.address (length x.bytes.now)) c.in_ok-caller.ensures.refusal c.check_run.ensures
+    let told : number_of c.from_residual.result ≡ number c.in_err-port.field-0.0 = search rules in
+    told ∙ port_refused s x.port (write_rows (state_of s) x.port x.address (length x.bytes.now)) c.in_err-port.ensures.refusal (none_is_0 _)
+
+pub returns-in_err-check_run-clause-refusal : goal.returns-in_err-check_run-clause-refusal
+unfolding Bytes.refusal_of Bytes.rows_of Modules.rows
+returns-in_err-check_run-clause-refusal c =
+    let x = c.args in
+    let s = x.state.now in
+    search (rules, port_accepted s x.port (write_rows (state_of s) x.port x.address (length x.bytes.now)) c.in_ok-port.ensures.refusal (rw c.in_ok-port.ensures.found at c.in_err-check_run.ensures))
+
+pub returns-clause-refusal : goal.returns-clause-refusal
+unfolding Bytes.refusal_of Bytes.rows_of Modules.rows
+returns-clause-refusal c =
+    let x = c.args in
+    let s = x.state.now in
+    port_accepted s x.port (write_rows (state_of s) x.port x.address (length x.bytes.now)) c.in_ok-port.ensures.refusal (rw c.in_ok-port.ensures.found at c.in_ok-check_run.ensures)

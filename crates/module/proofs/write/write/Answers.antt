@@ -15,9 +15,9 @@ returns-in_err-state-clause-refused c =
     let is : c.from_residual.result ≡ Err StateSize = search rules in
     rw is (write_refused x.state.now x.port x.address x.bytes.now 1 (size_refused x.state.now (write x.port x.address x.bytes.now) other) (none_is_0 StateSize))
 
-pub returns-in_err-check-clause-refused : goal.returns-in_err-check-clause-refused
-returns-in_err-check-clause-refused c =
+pub returns-in_err-port-clause-refused : goal.returns-in_err-port-clause-refused
+returns-in_err-port-clause-refused c =
     let x = c.args in
     let same : c.in_ok-state.state.now ≡ x.state.now = search rules in
-    let is : c.from_residual-in_err-check.result ≡ Err c.in_err-check.field-0.0 = search rules in
-    rw (is, same) (write_refused x.state.now x.port x.address x.bytes.now (number c.in_err-check.field-0.0) (rw same at c.in_err-check.ensures) (none_is_0 c.in_err-check.field-0.0))
+    let is : c.from_residual-in_err-port.result ≡ Err c.in_err-port.field-0.0 = search rules in
+    rw (is, same) (write_refused x.state.now x.port x.address x.bytes.now (number c.in_err-port.field-0.0) (rw same at c.in_err-port.ensures.refusal) (none_is_0 c.in_err-port.field-0.0))

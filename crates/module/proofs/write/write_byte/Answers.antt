@@ -8,6 +8,7 @@ use Rattle.address.specs.declared.Slot.TheVariants.{Mine, Common}
 use Rattle.model.specs.Ports.{caller}
 use Rattle.model.specs.Map.{mine, common, seat}
 use Rattle.model.proofs.Writes.{Within}
+use Rattle.both.specs.Ports.{port_number}
 use Rattle.module.proofs.write.Laws.{stored, slot_kept}
 use Rattle.module.proofs.write.write_byte.Goals as goal
 
@@ -33,15 +34,15 @@ returns-in-Mine c =
     let k = c.in-Mine.k in
     let l = lies (Mine k) c.in-Mine.is c.translate.ensures (omega arith) (omega arith) in
     rw (c.enter.ensures, c.own_class.ensures, ← c.translate.ensures, c.in-Mine.is)
-    (stored c.args.state.now (caller c.args.port) c.args.v c.told-state (mine k) c.in_record.result.0 l (cc) (omega arith))
+    (stored c.args.state.now (caller (port_number c.args.port)) c.args.v c.told-state (mine k) c.in_record.result.0 l (cc) (omega arith))
 
 pub returns-in-Common : goal.returns-in-Common
 returns-in-Common c =
     let p = c.in-Common.p in
     let l = lies (Common p) c.in-Common.is c.translate.ensures (omega arith) (omega arith) in
-    rw (c.enter-in-Common.ensures, c.common_class.ensures, ← c.translate.ensures, c.in-Common.is)
-    (stored c.args.state.now (caller c.args.port) c.args.v c.told-state (common p.0) p.0 l refl (omega arith))
+    rw (c.enter-in-Common.ensures, c.common_class.ensures, c.from-port.ensures, ← c.translate.ensures, c.in-Common.is)
+    (stored c.args.state.now (caller (port_number c.args.port)) c.args.v c.told-state (common p.0) p.0 l refl (omega arith))
 
 pub returns-in-Flag : goal.returns-in-Flag
 returns-in-Flag c =
-    rw (← c.translate.ensures) (slot_kept c.args.state.now (caller c.args.port) c.args.v c.told-state c.translate.result c.in-Flag.is)
+    rw (← c.translate.ensures) (slot_kept c.args.state.now (caller (port_number c.args.port)) c.args.v c.told-state c.translate.result c.in-Flag.is)
