@@ -24,11 +24,11 @@ impl Register {
         super::run_from(self.first, self.many())
     }
 
-    // Whether `page` is its page.
-    pub fn is_on(self, page: Page) -> bool
-        ensures { result ≡ eqb page.number self.page }
+    // Whether `page` is its page. Any number is taken, as it always was, so not a `Page`.
+    pub fn is_on(self, page: u8) -> bool
+        ensures { result ≡ eqb page self.page }
     {
-        page.number == self.page
+        page == self.page
     }
 
     // Whether an address is one of its addresses.

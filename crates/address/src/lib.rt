@@ -173,7 +173,7 @@ pub fn translate(a: HostAddress, page: Page) -> Slot
     if registers::STATUS.has(a) {
         return Slot::Status;
     }
-    if registers::HIGH_MASKS.is_on(page) {
+    if registers::HIGH_MASKS.is_on(page.number) {
         if let Some(k) = Own::HIGH_MASKS.byte_of(a) {
             return Slot::Mine(k);
         }

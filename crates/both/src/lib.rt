@@ -7,6 +7,7 @@ ghost use Rattle.std.specs.Int.Bits.{bit_and, bit_xor};
 ghost use Rattle.std.specs.Int.Count.{ones};
 ghost use Rattle.laws.specs.Tests.{first_of};
 ghost use Rattle.laws.specs.Lists.{at, sum};
+ghost use Rattle.ports.specs.Ports.{nobody};
 ghost use Rattle.ports.specs.Interrupt.{count_pair};
 ghost use Rattle.ports.specs.Modules.{miscounted, beyond, across};
 ghost use Rattle.refusal.specs.Numbers.{number_of};
@@ -56,6 +57,13 @@ impl From<Port> for u64 {
             Port::Recorder => 2,
         }
     }
+}
+
+// Whether a port is neither.
+pub fn is_nobody(port: u64) -> bool
+    ensures { result ≡ nobody port }
+{
+    Port::try_from(port).is_err()
 }
 
 // ---- refusals

@@ -18,10 +18,7 @@ refusal_in (refused n) = n
 refusal_in (given a) = 0
 
 abbrev pub kind_number : Kind → ℕ
-kind_number degrees = 1
-kind_number volts = 2
-kind_number milliwatts = 3
-kind_number milliamperes = 4
+kind_number = elim [ degrees ↦ 1 | volts ↦ 2 | milliwatts ↦ 3 | milliamperes ↦ 4 ]
 
 -- 0 where there is no value
 abbrev pub kind_in : Told Measured → ℕ

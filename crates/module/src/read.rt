@@ -47,7 +47,7 @@ fn put_high_masks(out: &mut [u8], run: HostRun, state: &State, base: Base, page:
     requires { run.many ≤ length out.old }
     ensures { out.new ≡ patch 0 run.many (λ j. if eqb page.number 3 && within high_masks (run.first.0 + j) then record_of state.now base.place.0 (high_mask_of (run.first.0 + j)) else at out.old j) out.old }
 {
-    if registers::HIGH_MASKS.is_on(page) {
+    if registers::HIGH_MASKS.is_on(page.number) {
         address::put_lane(out, run, state, address::own_lane(Own::HIGH_MASKS, base));
     }
 }

@@ -1,7 +1,7 @@
 // Units, and monitors: which quantity a monitor shows, whether it is measured, and its number.
 ghost use Rattle.std.specs.Prelude.{◌≡◌, not, ◌||◌, ◌+◌, ◌-◌, ◌*◌, ◌<◌, ◌≤◌, MatchResult};
 ghost use Rattle.laws.specs.Bits.{has};
-ghost use Rattle.model.specs.Map.{status_at};
+ghost use Rattle.model.specs.Map.{memory_size, status_at};
 ghost use Rattle.model.specs.Samples.{word, degrees, value, quantities, offered};
 ghost use Rattle.model.specs.Readout.{Exactly, in_unit, monitored};
 ghost use Rattle.model.specs.Bytes.{memory_of};
@@ -33,6 +33,14 @@ pub fn in_unit(q: Quantity, n: u16) -> f64
     }
 }
 
+// The number of two bytes at `i` of the memory, in the unit of a quantity.
+pub fn value_at(state: &State, q: Quantity, i: usize) -> f64
+    requires { i + 1 < memory_size }
+    ensures { result ≡ in_unit (meant q).kind (word (memory_of state.now) i) }
+{
+    in_unit(q, alarms::number(state, i))
+}
+
 // ---- monitors
 
 // A monitor: its quantity, and which of its channels, from 0.
@@ -40,6 +48,7 @@ pub fn in_unit(q: Quantity, n: u16) -> f64
 pub struct Monitor {
     pub quantity: Quantity,
     pub channel: u8,
+    ghost there: { channel < 4 },
 }
 
 impl TryFrom<u64> for Monitor {
@@ -72,12 +81,17 @@ impl Monitor {
             | ((self.quantity == Quantity::TxPower) & !alarms::offers_tx(state))
     }
 
+    // Where a sample stores its number.
+    pub fn stored_at(self) -> usize
+        ensures { (result ≡ (meant self.quantity).stored_from + 2 * self.channel) × (result ≤ 56) }
+    {
+        usize::from(self.quantity.stored_in().place()) + 2 * usize::from(self.channel)
+    }
+
     // Its number in its unit, as a sample stored it.
     pub fn value(self, state: &State) -> f64
         ensures { result ≡ in_unit (meant self.quantity).kind (word (memory_of state.now) ((meant self.quantity).stored_from + 2 * self.channel)) }
     {
-        let first = usize::from(self.quantity.stored_in().place());
-        let own = first + 2 * usize::from(self.channel);
-        in_unit(self.quantity, alarms::number(state, own))
+        value_at(state, self.quantity, self.stored_at())
     }
 }

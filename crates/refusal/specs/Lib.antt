@@ -1,2 +1,1 @@
-pub mod Discriminants
 pub mod Numbers
