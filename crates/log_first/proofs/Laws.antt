@@ -116,15 +116,6 @@ module _ (bs : List (List ℕ)) {rest : List (List ℕ)} {k before : ℕ} (gone 
   left : length rest ≡ length bs - gone.number
   left = ap length gone.rest_is ∙ length-drop gone.number bs
 
-  -- no block is left
-  pub none_left : length rest < 1
-      → given none ≡ (if crowded (concat bs) (length bs) then refused 15 else given (first_with (concat bs) (length bs) k))
-  none_left h =
-      let l = left in
-      let m = gone.inside in
-      let z : length bs ≡ gone.number = omega arith in
-      rw (z, gone.quiet, gone.none_yet)
-
   -- the next block, of which the count is n
   module _ (whole : Whole bs) (some_left : 1 ≤ length rest) {n : ℕ} (counted : n ≡ count (get_or rest 0 [])) where
     here : gone.number < length bs

@@ -3,7 +3,7 @@
 use Rattle.std.proofs.Common.{refl, ◌∙◌, arith, rules}
 use Rattle.log_model.specs.Log.{samples}
 use Rattle.question.specs.Search.{first_with, crowded}
-use Rattle.log_first.proofs.Laws.{none_left, crowded_here, count_fits, gone_on, position_fits, found_here}
+use Rattle.log_first.proofs.Laws.{crowded_here, count_fits, gone_on, position_fits, found_here}
 use Rattle.log_first.proofs.search.Goals as goal
 
 pub loop-rest-init : goal.loop-rest-init
@@ -37,6 +37,3 @@ loop-rest-preserved c =
     rw c.from-before.ensures
     (gone_on c.args.blocks.now c.loop-rest.invariant c.told-blocks c.in-len1-up.len_at_least c.count_of-count.ensures
     c.if-count-gt-MOST_SAMPLES.false c.in_default-in_block.ensures)
-
-pub returns : goal.returns
-returns c = none_left c.args.blocks.now c.loop-rest.invariant c.in_default.len_below
