@@ -1,7 +1,7 @@
 // The calls that change a log of samples: a sample added, a power-up.
 // Proved: for every memory, used number and sample, the refusal, the used number after it and the bytes left are those of document
 // 02's Ask 1 and Ask 9 (block/specs, log_model/specs).
-ghost use Rattle.std.specs.Prelude.{◌≡◌, false, ◌+◌, ◌*◌, ◌≤◌, ◌<◌, ◌∷◌, [], ◌&&◌, ◌||◌, leb, eqb, length, IfOk, IfErr};
+ghost use Rattle.std.specs.Prelude.{◌≡◌, false, ◌+◌, ◌-◌, ◌*◌, ◌≤◌, ◌<◌, ◌∷◌, [], ◌&&◌, ◌||◌, leb, eqb, length, IfOk, IfErr, if◌then◌else◌};
 ghost use Rattle.std.specs.List.{concat};
 ghost use Rattle.laws.specs.Tests.{first_of};
 ghost use Rattle.block.specs.Block.{block_size, count, most_samples, grown};
@@ -44,19 +44,32 @@ fn none_left(log: &[u8], used: &[Block]) -> bool
     (log.len() / BLOCK_LEN <= used.len()) | (last_number(used) == u32::MAX)
 }
 
+// ---- where a sample goes
+
+// The block that takes a sample, by its number from 0.
+enum Target {
+    // The last used one.
+    Last(usize),
+    // The one after the used ones, which is to be opened first.
+    New(usize),
+}
+
 // ---- refusals
 
-// Whether a sample of the right length needs a new block; refused where the sample is.
-fn check_add(log: &[u8], used: u64) -> Result<bool, Refusal>
+// The block that takes a sample of the right length; refused where the sample is.
+#[tactic(auto, using(crate::proofs::Blocks::cut_none_left, crate::proofs::Blocks::cut_full, crate::proofs::Blocks::cut_length))]
+fn target_block(log: &[u8], used: u64) -> Result<Target, Refusal>
     ensures code { number_of result ≡ first_of ((15, unsound log.now used) ∷ (14, needs_new log.now used && none_left log.now used) ∷ []) }
-    ensures accepted { IfOk result (λ is_new. is_new ≡ needs_new log.now used) }
+    ensures accepted { IfOk result (λ target. target ≡ (if needs_new log.now used then Target.New used else Target.Last (used - 1))) }
 {
     let blocks = sound_blocks(log, used)?;
-    let is_new = needs_new(blocks);
-    if is_new & none_left(log, blocks) {
+    if !needs_new(blocks) {
+        return Ok(Target::Last(blocks.len() - 1));
+    }
+    if none_left(log, blocks) {
         return Err(Refusal::LogFull);
     }
-    Ok(is_new)
+    Ok(Target::New(blocks.len()))
 }
 
 // Refused where a power-up is.
@@ -111,11 +124,15 @@ pub fn add(log: &mut [u8], used: u64, sample: &[u8]) -> Result<u64, Refusal>
     ensures refused { IfErr result (λ r. Added log.old used sample.now (number r) 0 log.new) }
 {
     let sample = sample.as_array::<SAMPLE_LEN>().ok_or(Refusal::SampleSize)?;
-    if check_add(log, used)? {
-        open_block(log, used as usize);
-        grow_block(log, used as usize, sample);
-        return Ok(used + 1);
+    match target_block(log, used)? {
+        Target::Last(number) => {
+            grow_block(log, number, sample);
+            Ok(used)
+        }
+        Target::New(number) => {
+            open_block(log, number);
+            grow_block(log, number, sample);
+            Ok(number as u64 + 1)
+        }
     }
-    grow_block(log, used as usize - 1, sample);
-    Ok(used)
 }

@@ -18,6 +18,7 @@ fn find(blocks: &[Block], position: u64) -> Result<u64, Refusal>
     ensures refused { IfErr result (λ r. (total (concat blocks.now) (length blocks.now) ≤ position) × (number r ≡ 17)) }
 {
     let mut left = position;
+    // `i` is the block's number, from which the place of its samples is computed; no slice is indexed by it.
     for (i, block) in blocks.iter().enumerate() {
         let count = u64::from(log_block::count_of(block));
         if left < count {

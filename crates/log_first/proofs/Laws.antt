@@ -1,7 +1,7 @@
 -- The search in the steps of the functions: while nothing is found the answer is none, and stays so with one block more in which there is
 -- none; once something is found, no later block changes the answer.
 -- Assumes nothing.
-use Rattle.std.proofs.Common.{◌≡◌, ℕ, zero, suc, ◌+◌, ◌-◌, ◌*◌, ◌/◌, ◌≤◌, ◌<◌, ◌↔◌, Bool, true, false, not, ltb, eqb, List, [], length, get_or, take, drop, length-drop, refl, sym, ◌∙◌, add-one, arith, Some, None, ltb-true, ltb-false, le-ltb, eqb-true}
+use Rattle.std.proofs.Common.{◌≡◌, ℕ, zero, suc, ◌+◌, ◌-◌, ◌*◌, ◌/◌, ◌≤◌, ◌<◌, ◌↔◌, Bool, true, false, not, ltb, eqb, List, [], length, get_or, take, drop, length-drop, refl, sym, ap, ◌∙◌, add-one, arith, Some, None, ltb-true, ltb-false, le-ltb, eqb-true}
 use Rattle.std.specs.Prelude.{Option as Answer, MatchOption, if◌then◌else◌}
 use Rattle.std.specs.Simd.{first_chunks}
 use Rattle.std.specs.List.{concat}
@@ -17,6 +17,7 @@ use Rattle.question.specs.Search.{lit, first_in, FirstIs, passed, first_of_block
 use Rattle.question.proofs.EverySample.{first_is, first_only}
 use Rattle.question.proofs.LeastPosition.{crowded_block, total_few}
 use lib.Seq.{get_or-drop, take-length}
+use Rattle.std.proofs.lemmas.List.{drop-drop}
 use Rattle.log_model.proofs.Fits.{fitting}
 use Rattle.log_model.proofs.BlockByBlock.{by_blocks, samples_same, total_more}
 use Rattle.log_calls.proofs.Blocks.{Whole, joined_block, cut_length, cut_same}
@@ -101,51 +102,81 @@ first_below k b {j} e = case (passed k b)
     some_none : some j ≡ none → ⊥
     some_none q = cc
 
--- what is known once the first i blocks are gone through: their samples are `before`, none has the bit, and no count is above 16
-pub record Gone (bs : List (List ℕ)) (k i before : ℕ) : Type 0 where
-  pub before_is : before ≡ total (concat bs) i
-  pub none_yet : first_with (concat bs) i k ≡ none
-  pub quiet : crowded (concat bs) i ≡ false
+-- what is known once `number` of the blocks are gone through, and `rest` is left: their samples are `before`, none has the bit, and no
+-- count is above 16
+pub record Gone (bs rest : List (List ℕ)) (k before : ℕ) : Type 0 where
+  pub number : ℕ
+  pub inside : number ≤ length bs
+  pub rest_is : rest ≡ drop number bs
+  pub before_is : before ≡ total (concat bs) number
+  pub none_yet : first_with (concat bs) number k ≡ none
+  pub quiet : crowded (concat bs) number ≡ false
 
--- the next block, of which the count is n
-module _ (bs : List (List ℕ)) (whole : Whole bs) (i : ℕ) (here : i < length bs) {n : ℕ} (counted : n ≡ count (get_or bs i [])) where
-  pub crowded_here : most_samples < n → crowded (concat bs) (length bs) ≡ true
-  crowded_here h = case (crowded (concat bs) (length bs))
-      (λ t. t)
-      (λ t. let l = few_if bs whole (length bs) (omega arith) t i here in absurd (omega arith))
+module _ (bs : List (List ℕ)) {rest : List (List ℕ)} {k before : ℕ} (gone : Gone bs rest k before) where
+  left : length rest ≡ length bs - gone.number
+  left = ap length gone.rest_is ∙ length-drop gone.number bs
 
-  module _ {k before : ℕ} (gone : Gone bs k i before) (few : n ≤ most_samples) where
-    pub count_fits : before + n ≤ block_size * i + block_size
-    count_fits = let h = total_few (concat bs) i gone.quiet in omega arith
+  -- the next block, of which the count is n
+  module _ (whole : Whole bs) (some_left : 1 ≤ length rest) {n : ℕ} (counted : n ≡ count (get_or rest 0 [])) where
+    here : gone.number < length bs
+    here = let l = left in omega arith
 
-    -- none of its samples has the bit
-    pub gone_on : none ≡ first_of_block k (get_or bs i []) → Gone bs k (i + 1) (before + n)
-    unfolding first_with
-    gone_on e =
-        let m : total (concat bs) (i + 1) ≡ total (concat bs) i + count (get_or bs i []) = rw (add-one, ← joined_block bs whole i here) (total_more (concat bs) i) in
-        record {
-          before_is = omega arith;
-          none_yet = rw (add-one, gone.none_yet, joined_block bs whole i here, ← e);
-          quiet = few_more bs whole i here gone.quiet (rw counted at few);
-        }
+    next : get_or rest 0 [] ≡ get_or bs gone.number []
+    next = let z : gone.number + 0 ≡ gone.number = omega arith in rw (gone.rest_is, get_or-drop gone.number bs 0 [], z)
 
-    -- the first that has it is the block's sample j
-    module _ {j : ℕ} (first : some j ≡ first_of_block k (get_or bs i [])) where
-      pub position_fits : before + j ≤ block_size * i + block_size
-      position_fits =
-          let h = count_fits in
-          let l = first_below k (get_or bs i []) first in
+    block_is : block (concat bs) gone.number ≡ get_or rest 0 []
+    block_is = joined_block bs whole gone.number here ∙ sym next
+
+    behind : take (length rest - 1) (drop 1 rest) ≡ drop (gone.number + 1) bs
+    behind = rw (← length-drop 1 rest, take-length (drop 1 rest), gone.rest_is, drop-drop 1 gone.number bs)
+
+    pub crowded_here : most_samples < n → crowded (concat bs) (length bs) ≡ true
+    crowded_here h = case (crowded (concat bs) (length bs))
+        (λ t. t)
+        (λ t. let e = next in let l = rw (← next) at (few_if bs whole (length bs) (omega arith) t gone.number here) in absurd (omega arith))
+
+    module _ (few : n ≤ most_samples) where
+      few_here : count (get_or bs gone.number []) ≤ most_samples
+      few_here = rw (← next, ← counted) few
+
+      pub count_fits : before + n ≤ block_size * length bs
+      count_fits =
+          let h = total_few (concat bs) gone.number gone.quiet in
+          let l = here in
+          let e = gone.before_is in
           omega arith
 
-      pub found_here : {rest : List (List ℕ)} → rest ≡ take (length bs - (i + 1)) (drop (i + 1) bs)
-          → (if crowded (concat rest) (length rest) then refused 15 else given (some (before + j)))
-          ≡ (if crowded (concat bs) (length bs) then refused 15 else given (first_with (concat bs) (length bs) k))
+      -- none of its samples has the bit
+      pub gone_on : none ≡ first_of_block k (get_or rest 0 []) → Gone bs (take (length rest - 1) (drop 1 rest)) k (before + n)
       unfolding first_with
-      found_here {rest} e =
-          let behind : rest ≡ drop (i + 1) bs = rw (e, ← length-drop (i + 1) bs) (take-length (drop (i + 1) bs)) in
-          let p : first_with (concat bs) (length bs) k ≡ some (total (concat bs) i + j) =
-          with_later (concat bs) k i (length bs) (total (concat bs) i + j) here (rw (gone.none_yet, joined_block bs whole i here, ← first)) in
-          rw (behind, few_behind bs whole i here gone.quiet (rw counted at few), p, gone.before_is)
+      gone_on e =
+          let l = here in
+          let m : total (concat bs) (gone.number + 1) ≡ total (concat bs) gone.number + count (get_or rest 0 []) = rw (add-one, ← block_is) (total_more (concat bs) gone.number) in
+          let b = gone.before_is in
+          record {
+            number = gone.number + 1;
+            inside = omega arith;
+            rest_is = behind;
+            before_is = omega arith;
+            none_yet = rw (add-one, gone.none_yet, block_is, ← e);
+            quiet = few_more bs whole gone.number here gone.quiet few_here;
+          }
+
+      -- the first that has it is the block's sample j
+      module _ {j : ℕ} (first : some j ≡ first_of_block k (get_or rest 0 [])) where
+        pub position_fits : before + j ≤ block_size * length bs
+        position_fits =
+            let h = count_fits in
+            let l = first_below k (get_or rest 0 []) first in
+            omega arith
+
+        pub found_here : (if crowded (concat (take (length rest - 1) (drop 1 rest))) (length (take (length rest - 1) (drop 1 rest))) then refused 15 else given (some (before + j)))
+            ≡ (if crowded (concat bs) (length bs) then refused 15 else given (first_with (concat bs) (length bs) k))
+        unfolding first_with
+        found_here =
+            let p : first_with (concat bs) (length bs) k ≡ some (total (concat bs) gone.number + j) =
+            with_later (concat bs) k gone.number (length bs) (total (concat bs) gone.number + j) here (rw (gone.none_yet, block_is, ← first)) in
+            rw (behind, few_behind bs whole gone.number here gone.quiet few_here, p, gone.before_is)
 
 -- ---- answers, in the order of the function's tests
 

@@ -91,16 +91,18 @@ fn search(blocks: &[Block], bit: StatusBit) -> Result<Option<u64>, Refusal>
     ensures { says found result ≡ (if crowded (concat blocks.now) (length blocks.now) then refused 15 else given (first_with (concat blocks.now) (length blocks.now) bit.number)) }
 {
     let mut before = 0;
-    for (i, block) in blocks.iter().enumerate() {
+    let mut rest = blocks;
+    while let [block, behind @ ..] = rest {
         let count = count_of(block);
         if MOST_SAMPLES < count {
             return Err(Refusal::UnsoundLog);
         }
         if let Some(k) = in_block(block, bit) {
             let position = before + k as u64;
-            return found_at(position, &blocks[i + 1..]);
+            return found_at(position, behind);
         }
         before += u64::from(count);
+        rest = behind;
     }
     Ok(None)
 }

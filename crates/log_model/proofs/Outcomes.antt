@@ -3,9 +3,9 @@
 -- Assumes nothing.
 use mathlib.Core.Path.{◌≡◌, sym, ◌∙◌}
 use mathlib.Core.Logic.{◌≢◌}
-use mathlib.Core.Bool.{true, false}
+use mathlib.Core.Bool.{true}
 use mathlib.Core.List.{List}
-use Prim.Native.Nat.{ℕ, suc, ◌+◌, ◌-◌, ◌*◌, ◌≤◌}
+use Prim.Native.Nat.{ℕ, suc, ◌+◌, ◌*◌, ◌≤◌}
 use native.Mathlib.Omega.{arith}
 use native.Mathlib.Numerals.{add-one}
 use lib.Dec.{eqb}
@@ -15,7 +15,7 @@ use borrow.Author.Tests.{ne_eqb, eq-eqb, eqb-true}
 use Rattle.laws.specs.Tests.{Row, first_of}
 use Rattle.laws.proofs.Tests.{case}
 use Rattle.block.specs.Block.{block_size, grown}
-use Rattle.log_model.specs.Log.{block, needs_new, put, new_block, after_power_up, used_after}
+use Rattle.log_model.specs.Log.{needs_new, put, new_block, used_after}
 use Rattle.log_model.specs.Outcomes.{add_refusal, power_up_refusal, sample_refusal, Changed, Added, Opened, Placed, Shown}
 use Rattle.log_model.proofs.PowerUps.{power_up_room}
 use Rattle.log_model.proofs.Adds.{add_taken, add_room}
@@ -40,16 +40,6 @@ module _ (log : List ℕ) (used : ℕ) (x : List ℕ) (r : ℕ) (e : r ≡ add_r
   added_new n t d =
       let a = eq-eqb (add_refusal log used x) 0 taken in
       record { refusal_is = e; used_is = rw (a, n, add-one); log_is = rw (a, n) d }
-
-  pub added_last : needs_new log used ≡ false → (t : List ℕ) → t ≡ put log (used - 1) (grown (block log (used - 1)) x) → Added log used x r used t
-  added_last n t d =
-      let a = eq-eqb (add_refusal log used x) 0 taken in
-      record { refusal_is = e; used_is = rw (a, n); log_is = rw (a, n) d }
-
-pub opened_new : (log : List ℕ) (used r : ℕ) → r ≡ power_up_refusal log used → r ≡ 0 → (t : List ℕ) → t ≡ after_power_up log used → Opened log used r (used + 1) t
-opened_new log used r e z t d =
-    let a = eq-eqb (power_up_refusal log used) 0 (sym e ∙ z) in
-    record { refusal_is = e; used_is = rw (a, add-one); log_is = rw a d }
 
 -- ---- any two outcomes that a contract allows are equal
 

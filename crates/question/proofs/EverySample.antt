@@ -89,7 +89,7 @@ any_lacks f k j (suc n) e i h =
 
 module _ (k : ℕ) (small : k < 24) (b : List ℕ) (long : length b ≡ block_size) where
   -- sample i of a block, by its places
-  pub lit_at : (i : ℕ) → i < most_samples → lit k (part (slot i) sample_size b) ≡ has (k % 8) (at b (slot i + k / 8))
+  lit_at : (i : ℕ) → i < most_samples → lit k (part (slot i) sample_size b) ≡ has (k % 8) (at b (slot i + k / 8))
   lit_at i h = ap (has (k % 8)) (part_at (slot i) sample_size b (omega arith) (k / 8) (omega arith))
 
   module _ (fine : sound_block b ≡ true) where

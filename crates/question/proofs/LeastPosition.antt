@@ -10,7 +10,7 @@ use native.Mathlib.Omega.{arith}
 use lib.Dec.{ltb, eqb}
 use lib.ListN.{length, get_or}
 use borrow.Author.Tests.{le-ltb, ltb-true, ltb-false, eqb-true, eqb-false}
-use Rattle.laws.specs.Lists.{at, part}
+use Rattle.laws.specs.Lists.{part}
 use Rattle.laws.proofs.Tests.{case, not_both, or_left, or_right}
 use Rattle.block.specs.Block.{block_size, sample_size, count, most_samples, slot, samples_in}
 use Rattle.log_model.specs.Log.{block, sound, samples, total, misfit}

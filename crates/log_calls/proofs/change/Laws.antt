@@ -1,7 +1,8 @@
 -- What an add and a power-up leave, in the steps of the functions: a block that is lent and comes back is a block that is put, and one
 -- that is opened and then grows is put twice at one place, which is once.
 -- Assumes nothing.
-use Rattle.std.proofs.Common.{◌≡◌, ℕ, suc, ◌+◌, ◌-◌, ◌*◌, ◌≤◌, ◌<◌, Bool, true, false, not, ◌&&◌, ◌||◌, leb, eqb, List, [], ◌∷◌, ◌++◌, length, take, drop, refl, sym, ap, ◌∙◌, arith, eq-eqb}
+use Rattle.std.proofs.Common.{◌≡◌, ℕ, suc, ◌+◌, ◌-◌, ◌*◌, ◌≤◌, ◌<◌, Bool, true, false, not, ◌&&◌, leb, List, [], ◌∷◌, ◌++◌, length, take, drop, refl, sym, ap, ◌∙◌, arith, eq-eqb}
+use Rattle.std.specs.Prelude.{if◌then◌else◌}
 use Rattle.std.specs.List.{concat}
 use Rattle.std.specs.Simd.{first_chunks}
 use borrow.Author.Tests.{leb-false, eqb-false}
@@ -10,23 +11,14 @@ use Rattle.laws.proofs.Tests.{or_left, or_right}
 use Rattle.laws.proofs.Parts.{put_back}
 use Rattle.block.specs.Block.{block_size, sample_size, count, most_samples, grown}
 use Rattle.block.proofs.Blocks.{fresh_length, fresh_count}
-use Rattle.log_model.specs.Log.{blocks, block, misfit, unsound, last_number, needs_new, put, none_left, new_block, wrong_sample}
+use Rattle.log_model.specs.Log.{blocks, block, unsound, last_number, needs_new, put, none_left, new_block, wrong_sample}
 use Rattle.log_model.specs.Outcomes.{add_refusal, Added}
 use Rattle.log_model.proofs.Outcomes.{added_new}
 use Rattle.log_model.proofs.Adds.{add_room, add_last_room}
 use Rattle.log_model.proofs.BlockByBlock.{put_length, put_here, put_put}
 use Rattle.log_block.proofs.Chunks.{chunks_front}
-use Rattle.log_calls.proofs.Blocks.{cut_last, cut_full, cut_none_left}
-
--- ---- refusals, past the first
-
-module _ (log : List ℕ) (used : ℕ) {bs : List (List ℕ)} (given : (unsound log used ≡ false) × (bs ≡ first_chunks block_size used log)) where
-  pub add_code : {t : Bool} → t ≡ (needs_new (concat bs) (length bs) && (leb (blocks log) (length bs) || eqb (last_number (concat bs) (length bs)) 4294967295))
-      → first_of ((15, false) ∷ (14, t) ∷ []) ≡ first_of ((15, unsound log used) ∷ (14, needs_new log used && none_left log used) ∷ [])
-  add_code {t} e =
-      let fits = or_left (misfit log used) _ given.0 in
-      let d : t ≡ (needs_new log used && none_left log used) = e ∙ rw (cut_full log used given.1 fits, cut_none_left log used given.1 fits) in
-      λ i. first_of ((15, sym given.0 i) ∷ (14, d i) ∷ [])
+use Rattle.log_calls.specs.declared.change.Target.TheVariants.{Last, New}
+use Rattle.log_calls.proofs.Blocks.{cut_last}
 
 -- ---- room for a block
 
@@ -50,34 +42,58 @@ pub block_back : (log : List ℕ) (i : ℕ) (b : List ℕ) → block_size * i + 
 unfolding put
 block_back log i b h e = put_back (block_size * i) block_size log b h e
 
--- ---- an add that is accepted, by what is left of its rows
+-- ---- an add that is accepted, by what is left of its rows and by the block that takes the sample
+
+-- which block it is, by its two cases
+last_target : (t : Bool) {i j : ℕ} (k : ℕ) → Last i ≡ (if t then New k else Last j) → (t ≡ false) × (i ≡ j)
+last_target true k e = cc
+last_target false k e = (refl, cc)
+
+new_target : (t : Bool) {i j : ℕ} (k : ℕ) → New i ≡ (if t then New j else Last k) → (t ≡ true) × (i ≡ j)
+new_target true k e = (refl, cc)
+new_target false k e = cc
 
 module _ (log : List ℕ) (used : ℕ) (x : List ℕ) (long : length x ≡ sample_size)
     (code : 0 ≡ first_of ((15, unsound log used) ∷ (14, needs_new log used && none_left log used) ∷ [])) where
-  pub taken : 0 ≡ add_refusal log used x
+  taken : 0 ≡ add_refusal log used x
   taken =
       let right : wrong_sample x ≡ false = ap not (eq-eqb (length x) sample_size long) in
-      code ∙ λ i. first_of ((8, sym right i) ∷ (15, unsound log used) ∷ (14, needs_new log used && none_left log used) ∷ [])
+      code ∙ λ k. first_of ((8, sym right k) ∷ (15, unsound log used) ∷ (14, needs_new log used && none_left log used) ∷ [])
 
-  pub last_room : needs_new log used ≡ false → (block_size * (used - 1) + block_size ≤ length log) × (count (block log (used - 1)) < most_samples)
-  last_room need = let (some_used, fits, few) = add_last_room log used x (sym taken) need in (fits, few)
+  -- in the last block
+  pub last_room : {i : ℕ} → Last i ≡ (if needs_new log used then New used else Last (used - 1))
+      → (block_size * i + block_size ≤ length log) × (count (block log i) < most_samples)
+  last_room e =
+      let (need, here) = last_target (needs_new log used) used e in
+      let (some_used, fits, few) = add_last_room log used x (sym taken) need in
+      rw here (fits, few)
 
   -- in a new block: that is opened, and then grows
-  module _ (need : needs_new log used ≡ true) {t : List ℕ} (opened : t ≡ put log used (new_block log used)) where
+  module _ {i : ℕ} (e : New i ≡ (if needs_new log used then New used else Last (used - 1))) {t : List ℕ} (opened : t ≡ put log i (new_block log i)) where
+    need : needs_new log used ≡ true
+    need = (new_target (needs_new log used) (used - 1) e).0
+
+    at_end : i ≡ used
+    at_end = (new_target (needs_new log used) (used - 1) e).1
+
+    made : t ≡ put log used (new_block log used)
+    made = rw at_end at opened
+
     fits : block_size * used + block_size ≤ length log
     fits = add_room log used x (sym taken) need
 
     here : block (put log used (new_block log used)) used ≡ new_block log used
     here = put_here log used (new_block log used) (fresh_length (suc (last_number log used))) fits
 
-    pub opened_room : (block_size * used + block_size ≤ length t) × (count (block t used) < most_samples)
+    pub opened_room : (block_size * i + block_size ≤ length t) × (count (block t i) < most_samples)
     opened_room =
         let h = fits in
-        let l : length t ≡ length log = ap length opened ∙ put_length log used (new_block log used) in
-        let c : count (block t used) ≡ 0 = rw (opened, here) (fresh_count (suc (last_number log used))) in
-        (omega arith, omega arith)
+        let l : length t ≡ length log = ap length made ∙ put_length log used (new_block log used) in
+        let c : count (block t used) ≡ 0 = rw (made, here) (fresh_count (suc (last_number log used))) in
+        rw at_end (omega arith, omega arith)
 
-    pub opened_added : {u : List ℕ} → u ≡ put t used (grown (block t used) x) → Added log used x 0 (used + 1) u
-    opened_added {u} e =
-        added_new log used x 0 taken refl need u
-        (e ∙ rw (opened, here) (put_put log used (new_block log used) (grown (new_block log used) x) fits))
+    pub opened_added : {u : List ℕ} → u ≡ put t i (grown (block t i) x) → Added log used x 0 (i + 1) u
+    opened_added {u} d =
+        rw at_end
+        (added_new log used x 0 taken refl need u
+        (rw (at_end, made, here) at d ∙ put_put log used (new_block log used) (grown (new_block log used) x) fits))

@@ -8,21 +8,20 @@ pub grow_block-requires : goal.grow_block-requires
 grow_block-requires c =
     let x = c.args in
     let sample = rw c.in_ok-sample.ensures.ok_part at c.as_array.ensures.cases in
-    let check = c.in_ok-check_add.ensures in
-    let need = sym check.accepted ∙ c.if-branch.true in
-    opened_room x.log.now x.used x.sample.now sample.long check.code need c.open_block.ensures
+    let found = c.in_ok-number.ensures in
+    last_room x.log.now x.used x.sample.now sample.long found.code (sym c.in-Last.is ∙ found.accepted)
 
-pub returns-then-branch-clause-accepted : goal.returns-then-branch-clause-accepted
-returns-then-branch-clause-accepted c =
+pub grow_block-requires-in-New : goal.grow_block-requires-in-New
+grow_block-requires-in-New c =
     let x = c.args in
     let sample = rw c.in_ok-sample.ensures.ok_part at c.as_array.ensures.cases in
-    let check = c.in_ok-check_add.ensures in
-    let need = sym check.accepted ∙ c.if-branch.true in
-    opened_added x.log.now x.used x.sample.now sample.long check.code need c.open_block.ensures (rw sample.same at c.grow_block.ensures)
+    let found = c.in_ok-number.ensures in
+    opened_room x.log.now x.used x.sample.now sample.long found.code (sym c.in-New.is ∙ found.accepted) c.open_block.ensures
 
-pub grow_block-requires-2 : goal.grow_block-requires-2
-grow_block-requires-2 c =
+pub returns-in-New-clause-accepted : goal.returns-in-New-clause-accepted
+returns-in-New-clause-accepted c =
     let x = c.args in
     let sample = rw c.in_ok-sample.ensures.ok_part at c.as_array.ensures.cases in
-    let check = c.in_ok-check_add.ensures in
-    last_room x.log.now x.used x.sample.now sample.long check.code (sym check.accepted ∙ c.if-branch.false)
+    let found = c.in_ok-number.ensures in
+    opened_added x.log.now x.used x.sample.now sample.long found.code (sym c.in-New.is ∙ found.accepted) c.open_block.ensures
+    (rw sample.same at c.grow_block-in-New.ensures)
