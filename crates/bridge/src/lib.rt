@@ -117,7 +117,7 @@ pub extern "C" fn zikhrodan_monitor_value(state: &[u8], number: u64) -> f64
 pub extern "C" fn zikhrodan_limits_refusal(state: &[u8], quantity: u64) -> u32
     ensures { result ≡ refusal_in (limits_told state.now quantity) }
 {
-    u32::from(packing::limits_refusal(readout::limits(state, quantity)))
+    u32::from(refusal::code(readout::limits(state, quantity)))
 }
 
 #[unsafe(no_mangle)]

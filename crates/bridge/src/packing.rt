@@ -1,7 +1,7 @@
 // The answers of the calls as the numbers that C is handed: several bytes packed into one number, a refusal and a value beside it, and the
 // parts of what a monitor or a limits call answers.
 // Proved: each number is the one that specs/Packing.antt says.
-ghost use Rattle.std.specs.Prelude.{◌≡◌, ◌<◌, IfOk, IfErr};
+ghost use Rattle.std.specs.Prelude.{◌≡◌, ◌<◌, ◌^◌, IfOk, IfErr};
 ghost use Rattle.laws.specs.Tests.{given};
 ghost use Rattle.laws.specs.Lists.{at};
 ghost use Rattle.refusal.specs.Numbers.{number, number_of, says};
@@ -54,9 +54,12 @@ pub fn place(answer: Result<Found, Refusal>) -> u32
     answer.map_or_else(refused, |f| packed([0, f.page.into(), f.start, f.length]))
 }
 
+// How many values there are beside a refusal: 56 bits.
+const VALUES: u64 = 1 << 56;
+
 // Of a call on a log: the refusal, and the value beside it in bits 8 to 63.
 pub fn told(answer: Result<u64, Refusal>) -> u64
-    requires { IfOk answer (λ n. n < 72057594037927936) }
+    requires { IfOk answer (λ n. n < 2 ^ 56) }
     ensures accepted { IfOk answer (λ n. (byte_of 0 result ≡ 0) × (upper result ≡ n)) }
     ensures refused { IfErr answer (λ r. (byte_of 0 result ≡ number r) × (upper result ≡ 0)) }
 {
@@ -68,10 +71,10 @@ pub fn told(answer: Result<u64, Refusal>) -> u64
 
 // Of the question: 0 for none, and else the position plus 1, its low 56 bits.
 pub fn first(position: Option<u64>) -> u64
-    ensures { (result ≡ value_of_first (given (found position))) × (result < 72057594037927936) }
+    ensures { (result ≡ value_of_first (given (found position))) × (result < 2 ^ 56) }
 {
     match position {
-        Some(n) => (n % 72057594037927936 + 1) % 72057594037927936,
+        Some(n) => (n % VALUES + 1) % VALUES,
         None => 0,
     }
 }
@@ -116,16 +119,6 @@ pub fn value(m: Monitored) -> f64
 }
 
 // ---- limits
-
-// 0 where they are not refused.
-pub fn limits_refusal(l: Result<FourLimits, Refusal>) -> u8
-    ensures { result ≡ refusal_in (says four l) }
-{
-    match l {
-        Ok(_) => 0,
-        Err(refusal) => refusal.into(),
-    }
-}
 
 // One of the four, 0.0 where there is none of that number or they are refused.
 pub fn limit(l: Result<FourLimits, Refusal>, which: u64) -> f64

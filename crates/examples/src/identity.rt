@@ -1,6 +1,7 @@
 // The identity of the image, by its three calls.
-use crate::print::{Hex, code};
+use crate::print::Hex;
 use readout::Found;
+use refusal::code;
 use std::io;
 
 const FIELDS: [(&str, u64); 7] = [

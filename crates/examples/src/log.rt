@@ -1,6 +1,6 @@
 // Document 02's Ask 1 and Ask 9: a log of two blocks.
-use crate::print::{Hex, code};
-use refusal::Refusal;
+use crate::print::Hex;
+use refusal::{Refusal, code};
 use std::io;
 
 fn kept(rt: &impl Print, name: &str, answer: Result<u64, Refusal>) -> io::Result<()> {
@@ -12,15 +12,12 @@ fn kept(rt: &impl Print, name: &str, answer: Result<u64, Refusal>) -> io::Result
 }
 
 // The front and the end of a block.
-fn shown(rt: &impl Print, block: &[u8]) -> io::Result<()> {
-    if block.len() == 512 {
-        println!(rt;
-            "  bytes 0 to 7:{}, 501 to 511:{}",
-            Hex(&block[..8]),
-            Hex(&block[501..])
-        )?;
-    }
-    Ok(())
+fn shown(rt: &impl Print, block: &[u8; 512]) -> io::Result<()> {
+    println!(rt;
+        "  bytes 0 to 7:{}, 501 to 511:{}",
+        Hex(&block[..8]),
+        Hex(&block[501..])
+    )
 }
 
 // Adds a sample of nothing but `status` in its first byte.
@@ -60,10 +57,10 @@ fn begin(rt: &impl Print, log: &mut [u8]) -> io::Result<()> {
 pub fn story(rt: &impl Print) -> io::Result<()> {
     let mut log = [0xAAu8; 1024];
     begin(rt, &mut log)?;
-    shown(rt, &log[0..512])?;
+    shown(rt, log_calls::walk::block_of(&log, 0))?;
     add(rt, &mut log, 2, "a sample", 0)?;
     add(rt, &mut log, 2, "a sample with bit 1", 2)?;
-    shown(rt, &log[512..1024])?;
+    shown(rt, log_calls::walk::block_of(&log, 1))?;
     for position in 1..3 {
         at(rt, &log, 2, position)?;
     }

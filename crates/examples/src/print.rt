@@ -1,6 +1,6 @@
 // What is printed. Each function ends at the first write that fails, with its error.
 use both::Counts;
-use refusal::Refusal;
+use refusal::{Refusal, code};
 use std::{fmt, io};
 
 // Bytes in hex, each after a blank.
@@ -16,21 +16,9 @@ impl fmt::Display for Hex<'_> {
     }
 }
 
-// The number of an answer's refusal, 0 where there is none.
-pub fn code<T: Copy>(answer: Result<T, Refusal>) -> u8 {
-    match answer {
-        Ok(_) => 0,
-        Err(refusal) => refusal.into(),
-    }
-}
-
 // What a reset or a sample answers.
 pub fn counts(rt: &impl Print, name: &str, answer: Result<Counts, Refusal>) -> io::Result<()> {
-    let none = Counts {
-        operator: 0,
-        recorder: 0,
-    };
-    let Counts { operator, recorder } = answer.unwrap_or(none);
+    let Counts { operator, recorder } = answer.unwrap_or_default();
     println!(rt;
         "{name}: refusal {}, counts {operator} {recorder}",
         code(answer)
@@ -54,8 +42,8 @@ pub fn count(
 
 // The bit pattern of an f64, if it is no NaN.
 pub fn pattern(rt: &impl Print, name: &str, x: f64) -> io::Result<()> {
-    if x == x {
-        return println!(rt; "{name} {:016x}", x.to_bits());
+    if x.is_nan() {
+        return println!(rt; "{name} ");
     }
-    println!(rt; "{name} ")
+    println!(rt; "{name} {:016x}", x.to_bits())
 }
