@@ -23,7 +23,7 @@ impl From<HostAddress> for u8 {
     }
 }
 
-// Host addresses in a row, none above 255.
+// Host addresses in a row, none above 255: a `Run` whose numbers are addresses.
 #[derive(Clone, Copy, Debug, PartialEq, Eq)]
 pub struct HostRun {
     pub first: HostAddress,

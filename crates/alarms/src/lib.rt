@@ -18,7 +18,7 @@ mod quantities;
 
 pub use quantities::Quantity;
 
-// ---- a sample: three status bytes, then fourteen numbers of two bytes
+// ---- a sample: three status bytes, then fourteen numbers of two bytes. `log_block` has the same type, so that a log knows of no module.
 
 pub type Sample = [u8; SAMPLE_LEN];
 
@@ -34,7 +34,7 @@ pub const TX_BIAS_IN: usize = RX_POWER_IN + 8;
 
 pub const TX_POWER_IN: usize = TX_BIAS_IN + 8;
 
-// ---- numbers
+// ---- numbers: at a place of any memory that has it, as the definitions say it
 
 // The number of two bytes at `i`, high byte first.
 pub fn number(s: &[u8], i: usize) -> u16
@@ -131,7 +131,7 @@ fn four_of<T: Reading>(n: u16, t: [u16; 4]) -> u8
         + below::<T>(n, t[3])
 }
 
-// One rule for four channels by three quantities: channel `c` of quantity `q`.
+// One rule for four channels by three quantities: channel `c` of quantity `q`, in both arrays of three rows of four (document 01's named form).
 fn rule(x: [[u16; 4]; 3], t: [[u16; 4]; 3], q: usize, c: usize) -> u8
     requires { (q < 3) × (c < 4) }
     ensures { (result ≡ four_of (pos (cell x q c)) (λ w. pos (cell t q w))) × (result ≤ 15) }

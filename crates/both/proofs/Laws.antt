@@ -1,4 +1,4 @@
--- Refusal 5 of a write as the code tests it. The count over pairs side by side: one pair more; and in the record of any module. What a read
+-- The count over pairs side by side: one pair more; and in the record of any module. What a read
 -- shows of a record.
 -- Assumes nothing.
 use Rattle.std.specs.Prelude.{if◌then◌else◌}
@@ -23,15 +23,6 @@ use Rattle.ports.specs.Bytes.{record_of}
 use Rattle.ports.proofs.Interrupt.{ones_through}
 use Rattle.moves.specs.Copied.{copied}
 use Rattle.both.specs.Beside.{beside}
-
--- ---- refusals
-
--- a write that is of 1 to 4 bytes
-pub few : (n : ℕ) → miscounted 4 n ≡ false → n ≤ 4
-few n e = ltb-false 4 n (or_right (eqb n 0) (ltb 4 n) e)
-
-pub past_end : (r a n : ℕ) → 128 ≤ r → miscounted 4 n ≡ false → (beyond r a n || across a n) ≡ (ltb (r - n) a || (ltb a 128 && ltb (128 - n) a))
-past_end r a n l e = let h = few n e in rw (sub_ltb r a n (omega arith), sub_ltb 128 a n (omega arith))
 
 -- ---- the count
 

@@ -23,7 +23,7 @@ pub fn packed(bytes: [u8; 4]) -> u32
     u32::from_le_bytes(bytes)
 }
 
-// A refusal alone.
+// A refusal alone. What is accepted has its own values in each of the next three, so they are three.
 fn refused(refusal: Refusal) -> u32
     ensures { (byte_of 0 result ≡ number refusal) × (byte_of 1 result ≡ 0) × (byte_of 2 result ≡ 0) × (byte_of 3 result ≡ 0) }
 {
@@ -81,7 +81,7 @@ pub fn first(position: Option<u64>) -> u64
 
 // ---- monitors
 
-// 0 where it is not refused.
+// 0 where it is not refused: C's number, as the next one's are.
 pub fn monitor_refusal(m: Monitored) -> u8
     ensures { result ≡ refusal_in (monitor_says m) }
 {

@@ -13,7 +13,7 @@ use address::{Register, registers};
 // A page by its own bytes.
 pub type Page = [u8; address::PAGE_LEN];
 
-// The check code of bytes.
+// The check code of bytes. Apart from `log_block`'s `sum16`: one fold of the library each, which a generic one would not shorten.
 pub fn check_code(s: &[u8]) -> u8
     ensures { result ≡ check_code s.now }
 {

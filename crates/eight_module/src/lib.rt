@@ -1,5 +1,5 @@
 // The eight-channel module: the four calls that are lent its state, 98 bytes, a file each, and here what they share. Nothing need be
-// checked first: each call refuses what it cannot take, and a refusal changes no byte.
+// checked first: each call refuses what it cannot take, and a refusal changes no byte. The frame of the calls is that of `module`'s.
 // Proved: what each call answers and leaves is, for every input, that of the definitions (crates/eight), of which its rules are proved.
 #![tactic(auto)]
 
@@ -47,7 +47,7 @@ const TEMPERATURE: usize = 5;
 
 const MODULE: usize = 6;
 
-// State changed, bit 0 of the module's flags, has no mask.
+// State changed, bit 0 of the module's flags, has no mask. Two tables, as the definitions have two.
 const FLAG_BITS: [u8; MANY] = [
     0xff, 0xff, 0xff, 0xff, 0xff, 0xf0, 0xcf, 0xff, 0xff, 0xff, 0xff, 0xff, 0xff, 0xff,
 ];
@@ -87,7 +87,8 @@ fn record_of(port: Port) -> usize
 
 // ---- soundness
 
-// Whether the record of `port` is sound: no bit is set that is no flag and no paired mask.
+// Whether the record of `port` is sound: no bit is set that is no flag and no paired mask. Six bytes by name: a loop over all 42 would look at
+// those too that cannot be wrong.
 fn is_sound(state: &State, port: Port) -> bool
     ensures { result ≡ sound (record_of eight state.now (base eight (caller (port_number port)))) }
 {

@@ -26,7 +26,7 @@ fn check(state: &State, port: u64, address: u64, count: u64, out: &[u8]) -> Resu
     Ok(port)
 }
 
-// What `port` sees at the addresses of `run`, at the front of `out`.
+// What `port` sees at the addresses of `run`, at the front of `out`, which has room for them: they come apart, as in `module`'s read.
 fn look(out: &mut [u8], run: Run, state: &State, port: Port)
     requires { run.many ≤ length out.old }
     ensures { out.new ≡ patch 0 run.many (λ j. seen (record_of eight state.now (base eight (caller (port_number port)))) (run.first + j)) out.old }

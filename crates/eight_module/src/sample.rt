@@ -42,7 +42,7 @@ const LEAD: usize = 2;
 
 const LED: usize = LEAD + super::MANY;
 
-// The conditions of a sample, its bits that are flags.
+// The conditions of a sample, its bits that are flags. By `from_fn`, since arrays have no zip.
 fn conditions(x: &Bytes) -> Led
     ensures { drop 2 result.bytes ≡ table 14 (conditions x.now) }
 {

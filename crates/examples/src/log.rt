@@ -46,7 +46,8 @@ fn first(rt: &impl Print, log: &[u8], used: u64, bit: u64) -> io::Result<()> {
     }
 }
 
-// Ask 1's empty block, as Ask 9 has it: 1 in byte 3, 1 in byte 504, 2 in byte 511.
+// Ask 1's empty block, as Ask 9 has it: 1 in byte 3, 1 in byte 504, 2 in byte 511. The used numbers are arguments, and index nothing; so are the
+// positions below.
 fn begin(rt: &impl Print, log: &mut [u8]) -> io::Result<()> {
     for used in 0..3 {
         kept(rt, "power-up", log_calls::power_up(log, used))?;

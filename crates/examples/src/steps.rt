@@ -3,7 +3,7 @@ use crate::print;
 use crate::sample::IN_LIGHT;
 use std::io;
 
-// A read of one to four bytes; all four of the output memory are printed.
+// A read of one to four bytes; all four of the output memory are printed. Ports are the numbers that a caller says, here and in the other files.
 fn read(
     rt: &impl Print,
     state: &mut [u8],

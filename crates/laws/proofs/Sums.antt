@@ -20,12 +20,6 @@ pub sum_last : (l : List ℕ) (x : ℕ) → sum (l ++ (x ∷ [])) ≡ sum l + x
 unfolding sum
 sum_last l x = rw sum_append (omega arith)
 
--- one element more of a list
-pub sum_next : (a i : ℕ) (s : List ℕ) → a + i < length s → sum (part a (i + 1) s) ≡ sum (part a i s) + at s (a + i)
-sum_next a i s h =
-    let k : i < length (drop a s) = simp length-drop (omega arith) in
-    rw (add-one, take-suc (drop a s) i 0, sum_last, get_or-drop)
-
 -- a sum modulo m, part by part
 pub sum_append_mod : (m : ℕ) (a b : List ℕ) → sum (a ++ b) % m ≡ (sum a % m + sum b % m) % m
 sum_append_mod m a b = rw (sum_append a b) (add-mod (sum a) (sum b) m)

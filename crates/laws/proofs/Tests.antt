@@ -112,9 +112,3 @@ pub covers_to : (a b i : ℕ) → a ≤ b → covers a (suc b - a) i ≡ (leb a 
 covers_to a b i h = let e : a + (suc b - a) ≡ suc b = omega arith in rw e (case (leb i b)
     (λ t. let l = leb-true i b t in rw (t, lt-ltb i (suc b) (omega arith)))
     (λ t. let l = leb-false i b t in rw (t, le-ltb i (suc b) (omega arith))))
-
--- m - n is below a where m is below a + n
-pub sub_ltb : (m a n : ℕ) → n ≤ m → ltb (m - n) a ≡ ltb m (a + n)
-sub_ltb m a n h = case (ltb m (a + n))
-    (λ t. let l = ltb-true m (a + n) t in rw t (lt-ltb (m - n) a (omega arith)))
-    (λ t. let l = ltb-false m (a + n) t in rw t (le-ltb (m - n) a (omega arith)))

@@ -39,7 +39,7 @@ fn sum16(bytes: &[u8]) -> u16
         .fold(0, |sum: u16, byte| sum.wrapping_add(u16::from(*byte)))
 }
 
-// Whether some bytes are all 0.
+// Whether some bytes are all 0. Not by `all`, which ends at the first that is not, and takes more than a block's 500 instructions.
 fn is_blank(bytes: &[u8]) -> bool
     ensures { result ≡ holds 0 (length bytes.now) (λ j. 0) bytes.now }
 {
@@ -55,7 +55,8 @@ pub fn count_of(block: &Block) -> u8
     block[COUNT_AT]
 }
 
-// Its samples, in order.
+// Its samples, in order. That the count is at most 16 is asked here and where samples are gone over: it is a byte of the block, which `grow`
+// changes, so no type of the block holds it.
 #[tactic(auto, using(crate::proofs::Chunks::chunks_front, crate::proofs::Chunks::samples_chunks))]
 pub fn samples_of(block: &Block) -> &[Sample]
     requires { count block.now ≤ most_samples }
@@ -160,7 +161,7 @@ pub fn number_of(block: &Block) -> u32
 
 // ---- a block that is written
 
-// Makes it block `n` with no samples, whatever it held.
+// Makes it block `n` with no samples, whatever it held: any number, as it always was, of which four bytes are kept.
 pub fn begin(block: &mut Block, n: u64)
     ensures { block.new ≡ fresh n }
 {

@@ -24,7 +24,7 @@ fn is_mine(page: Page, a: HostAddress) -> bool
     matches!(address::translate(a, page), Slot::Mine(_))
 }
 
-// Whether all of a run are.
+// Whether all of a run are: over their numbers, which index nothing.
 fn are_mine(page: Page, run: HostRun) -> bool
     ensures { result ≡ all_mine page.number run.first.0 run.many }
 {
@@ -88,7 +88,8 @@ fn write_byte(state: &mut State, port: Port, page: Page, a: HostAddress, v: u8)
     }
 }
 
-// The bytes of a write, one after the other; `page` is the page selected before the call.
+// The bytes of a write, one after the other; `page` is the page selected before the call. The number of each is how far it is from the first
+// address, and indexes nothing; `eight_module`'s is the same loop over another write of one byte.
 fn write_bytes(state: &mut State, port: Port, page: Page, run: HostRun, bytes: &[u8])
     requires { length bytes.now ≡ run.many }
     ensures { state.new ≡ bytes_of (puts (state_of state.old) (caller (port_number port)) page.number run.first.0 bytes.now) }

@@ -8,6 +8,9 @@ ghost use Rattle.laws.specs.Tests.{covers};
 ghost use Rattle.laws.specs.Lists.{at, patch};
 ghost use Rattle.moves.specs.Copied.{copied};
 
+// ---- into all of `dst`, from place `to` on: not into a slice of it, since each contract says what of all of `dst` is replaced, as its callers'
+// contracts do. Two slices are not zipped: of what is written through a zip of `iter_mut` nothing is known.
+
 // Copies `src` to the places of `dst` from `to` on. Not by `copy_from_slice`: that is a call of C's `memmove`, and the library asks for nothing
 // but `memset`.
 pub fn copy(dst: &mut [u8], to: usize, src: &[u8])
@@ -19,7 +22,8 @@ pub fn copy(dst: &mut [u8], to: usize, src: &[u8])
     }
 }
 
-// Puts `v` at the `n` places of `dst` from `to` on: not at a slice, since the contract says what of all of `dst` is replaced.
+// Puts `v` at the `n` places of `dst` from `to` on. Not by the library's `fill`, which takes a read of the eight-channel module past its 400
+// instructions.
 pub fn fill(dst: &mut [u8], to: usize, n: usize, v: u8)
     requires { to + n ≤ length dst.old }
     ensures { dst.new ≡ patch to n (λ j. v) dst.old }
@@ -42,7 +46,8 @@ pub fn join(dst: &mut [u8], to: usize, src: &[u8])
 
 // ---- runs of numbers, as of addresses, and what two of them have in common
 
-// `many` numbers in a row from `first` on, none above 255.
+// `many` numbers in a row from `first` on, none above 255. A run of host addresses and one of places are types of their own in `address`, as
+// document 01 has it, and go by this one's `part`.
 #[derive(Clone, Copy, Debug, PartialEq, Eq)]
 pub struct Run {
     pub first: usize,
@@ -72,7 +77,7 @@ impl Run {
 }
 
 // The front of `out` stands for the numbers of `shown`, the places of `src` from `from` on for those of `held`: copies what
-// both have. Not a slice of `src`: the contract speaks of the places of all of it, as its callers do.
+// both have. Not a slice of `src`: the contract speaks of the places of all of it, as its callers' do.
 pub fn copy_part(out: &mut [u8], shown: Run, src: &[u8], from: usize, held: Run)
     requires { (shown.many ≤ length out.old) × (from + held.many ≤ length src.now) }
     ensures { out.new ≡ patch 0 shown.many (λ j. copied src.now from held.first held.many (shown.first + j) (at out.old j)) out.old }

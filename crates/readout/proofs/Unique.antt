@@ -73,8 +73,8 @@ outcome (Ok (measured milliamperes x)) = Milliamperes x
 outcome (Ok nothing) = Nothing
 outcome (Err r) = Refused r
 
-back : (x : Monitored) → outcome (answer x) ≡ x
-back = elim [ Degrees x ↦ refl | Volts x ↦ refl | Milliwatts x ↦ refl | Milliamperes x ↦ refl | Nothing ↦ refl | Refused r ↦ refl ]
+monitor_back : (x : Monitored) → outcome (answer x) ≡ x
+monitor_back = elim [ Degrees x ↦ refl | Volts x ↦ refl | Milliwatts x ↦ refl | Milliamperes x ↦ refl | Nothing ↦ refl | Refused r ↦ refl ]
 
 said : (x : Monitored) → monitor_says x ≡ says (λ m. m) (answer x)
 said = elim [ Degrees x ↦ refl | Volts x ↦ refl | Milliwatts x ↦ refl | Milliamperes x ↦ refl | Nothing ↦ refl | Refused r ↦ refl ]
@@ -82,7 +82,7 @@ said = elim [ Degrees x ↦ refl | Volts x ↦ refl | Milliwatts x ↦ refl | Mi
 -- any two outcomes of a monitor call that the contract allows are equal
 pub monitor_unique : (s : List ℕ) (n : ℕ) (x y : Monitored) → monitor_says x ≡ monitor_told s n → monitor_says y ≡ monitor_told s n → x ≡ y
 monitor_unique s n x y p q =
-    sym (back x) ∙ ap outcome (said_once (λ m. m) (λ m. m) (λ m. refl) (answer x) (answer y) (sym (said x) ∙ p ∙ sym q ∙ said y)) ∙ back y
+    sym (monitor_back x) ∙ ap outcome (said_once (λ m. m) (λ m. m) (λ m. refl) (answer x) (answer y) (sym (said x) ∙ p ∙ sym q ∙ said y)) ∙ monitor_back y
 
 -- ---- limits
 

@@ -96,7 +96,7 @@ pub fn identity_view<'a>(live: &'a [u8], factory: &'a [u8], field: u64) -> &'a [
 
 // ---- monitors
 
-// What a monitor answers: a number in its unit, or nothing measured, or a refusal.
+// What a monitor answers: a number in its unit, or nothing measured, or a refusal. Its refusal is one of its cases, as document 01 names the form.
 #[derive(Clone, Copy)]
 pub enum Monitored {
     Degrees(f64),
@@ -119,7 +119,7 @@ fn shown(q: Quantity, x: f64) -> Monitored
     }
 }
 
-// What monitor `number` answers, or why it is refused.
+// What monitor `number`, any, answers, or why it is refused: a `Result`, for `?`.
 #[tactic(auto, unfolding(model::specs::Readout::monitor))]
 fn answered(state: &[u8], number: u64) -> Result<Monitored, Refusal>
     ensures { MatchResult result (λ m. monitor_says m ≡ monitor_told state.now number) (λ r. monitor_says (Monitored.Refused r) ≡ monitor_told state.now number) }

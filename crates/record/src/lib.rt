@@ -30,7 +30,8 @@ fn own(state: &State, base: Base, k: usize) -> u8
 
 // ---- soundness
 
-// Whether the module has the page: by bit 2 of lower byte 2, and bits 6 and 7 of page 00h byte 195.
+// Whether the module has the page, any number: by bit 2 of lower byte 2, and bits 6 and 7 of page 00h byte 195. Bits are told by `/` and `%` here
+// and above, as the definitions tell them; `&` would be no plainer.
 #[tactic(auto, unfolding(model::specs::Map::supported))]
 pub fn is_supported(state: &State, page: u8) -> bool
     ensures { result ≡ supported (memory_of state.now) page }
@@ -53,7 +54,7 @@ pub fn page_of(state: &State, base: Base) -> u8
     own(state, base, address::PAGE_IN)
 }
 
-// The page that it selects, where it is sound.
+// The page that it selects, where it is sound. No type holds a sound record: it is bytes of the state, which every call changes.
 pub fn selected(state: &State, base: Base) -> Page
     requires { sound (memory_of state.now) (record_of state.now base.place.0) ≡ true }
     ensures { result.number ≡ record_of state.now base.place.0 page_at }
@@ -76,7 +77,8 @@ pub fn is_sound(state: &State, base: Base) -> bool
         && own(state, base, address::SUPPLY_MASK_IN) % 16 == 0
 }
 
-// The port that calls, or the refusals 1 to 3 of any call by a port.
+// The port that calls, or the refusals 1 to 3 of any call by a port: any state and any number, since that is what it refuses. `check_port` of
+// `eight_module` is the same of the other module: what they share is `Port::try_from`.
 pub fn caller(state: &[u8], port: u64) -> Result<Port, Refusal>
     ensures refusal { number_of result ≡ first_of ((1, wrong_size state.now) ∷ port_rows (state_of state.now) port) }
     ensures found { IfOk result (λ p. port_number p ≡ port) }
