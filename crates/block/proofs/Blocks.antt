@@ -1,7 +1,6 @@
 -- What a sound block says of its places; and a block that is written is sealed (Sealed.antt), so it is sound if its count and its unused
 -- room are right, and its number and its samples are read off the places before byte 501.
 -- Assumes nothing.
-use Rattle.std.specs.Prelude.{if◌then◌else◌}
 use mathlib.Core.Path.{◌≡◌, refl, sym, ap, ◌∙◌}
 use mathlib.Core.Logic.{◌≢◌}
 use mathlib.Core.Bool.{true, false, ◌&&◌}

@@ -1,5 +1,4 @@
--- The count over pairs side by side: one pair more; and in the record of any module. What a read
--- shows of a record.
+-- The count over pairs side by side: one pair more; and in the record of any module. What a read shows of a record.
 -- Assumes nothing.
 use Rattle.std.specs.Prelude.{if◌then◌else◌}
 use mathlib.Core.Path.{◌≡◌, refl, ap}
@@ -14,7 +13,7 @@ use lib.Dec.{eqb, ltb}
 use borrow.Author.Tests.{lt-ltb, ltb-false}
 use Rattle.laws.specs.Tests.{Run, within}
 use Rattle.laws.specs.Lists.{at, sum}
-use Rattle.laws.proofs.Tests.{case, or_right, covers_true, sub_ltb}
+use Rattle.laws.proofs.Tests.{case, covers_true}
 use Rattle.laws.proofs.Sums.{sum_last}
 use Rattle.ports.specs.Ports.{Places}
 use Rattle.ports.specs.Interrupt.{Pair, count_pair}

@@ -2,13 +2,11 @@
 -- Assumes nothing.
 use mathlib.Core.Path.{◌≡◌, refl, sym}
 use mathlib.Core.List.{List, [], ◌∷◌, ◌++◌, map, Memᴰ}
-use Prim.Native.Nat.{ℕ, ◌+◌, ◌*◌, ◌%◌, ◌≤◌, ◌<◌}
+use Prim.Native.Nat.{ℕ, ◌+◌, ◌*◌, ◌%◌, ◌≤◌}
 use native.Mathlib.Nat.{zero-add, add-mod, suc-mul}
-use native.Mathlib.Numerals.{add-one}
 use native.Mathlib.Omega.{arith}
-use lib.ListN.{length, drop, length-drop}
-use lib.Seq.{take-suc, get_or-drop}
-use Rattle.laws.specs.Lists.{at, part, sum}
+use lib.ListN.{length}
+use Rattle.laws.specs.Lists.{sum}
 
 pub sum_append : (a b : List ℕ) → sum (a ++ b) ≡ sum a + sum b
 unfolding sum

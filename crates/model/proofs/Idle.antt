@@ -25,10 +25,10 @@ use Rattle.model.specs.Samples.{conditions, conds, stored, raised}
 use Rattle.model.specs.Writing.{written, store, puts}
 use Rattle.model.specs.Refusals.{all_mine, refusal, accepted}
 use Rattle.model.specs.Reading.{shared, look, seen, cleared}
-use Rattle.model.specs.Calls.{step, answer, Calls, start, ◌▷◌, run}
+use Rattle.model.specs.Calls.{step, Calls, start, ◌▷◌, run}
 use Rattle.model.specs.Bytes.{state_of, refusal_of}
 use Rattle.model.specs.Stories.{image, looks, accepts, after_reset, shown, losing, enters, other_port}
-use Rattle.model.proofs.Names.{rows, done}
+use Rattle.model.proofs.Names.{done}
 use Rattle.model.proofs.Bytes.{refusal_long}
 
 -- ---- histories of accepted calls

@@ -20,10 +20,9 @@ use Rattle.model.specs.Map.{page_size, paged, state_size}
 use Rattle.model.specs.Readout.{sound_page, field_of, limit, limits}
 use Rattle.model.specs.Refusals.{identity_refusal}
 use Rattle.model.specs.Calls.{view_of}
-use Rattle.model.specs.Bytes.{memory_of, state_of, refusal_of, after}
+use Rattle.model.specs.Bytes.{memory_of, refusal_of, after}
 use Rattle.model.specs.Outcomes.{given, limits_told}
 use Rattle.model.specs.Demands.{is_reset}
-use Rattle.model.proofs.Names.{done}
 use Rattle.model.proofs.Lasting.{lasting, fresh_lasting, limit_same}
 use Rattle.model.proofs.Bytes.{memory_at, after_length}
 use Rattle.model.proofs.Begun.{taken_size, taken_memory, after_lasts, begun_image, begun_size}

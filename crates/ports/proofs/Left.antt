@@ -1,7 +1,6 @@
 -- What an accepted call's code leaves: the bytes where it replaces one record, and of a read, a reset and a write what their contracts
 -- then want.
 -- Assumes nothing.
-use Rattle.std.specs.Prelude.{if◌then◌else◌}
 use mathlib.Core.Path.{◌≡◌, sym, ap, ◌∙◌}
 use mathlib.Core.List.{List}
 use Prim.Native.Nat.{ℕ, ◌+◌, ◌≤◌, ◌<◌}

@@ -10,7 +10,6 @@ use lib.Dec.{eqb}
 use lib.ListN.{length}
 use borrow.Author.Tests.{eq-eqb, eqb-true, eqb-false, ltb-false, not-true, not-false}
 use Rattle.laws.specs.Tests.{Row, first_of}
-use Rattle.laws.specs.Lists.{at}
 use Rattle.laws.proofs.Tests.{if_not, and_left, and_right, and_both, or_left, or_right}
 use Rattle.laws.proofs.Rows.{first_none, first_append}
 use Rattle.ports.specs.Ports.{nobody, operator, recorder, caller, sample, read, write}

@@ -1,5 +1,5 @@
 -- `log_calls::walk::block_of` meets its contract.
-use Rattle.std.proofs.Common.{◌≡◌, ◌/◌, ◌∙◌, ap, List, [], ℕ, get_or, length, arith}
+use Rattle.std.proofs.Common.{◌/◌, ◌∙◌, ap, List, [], ℕ, get_or, length, arith}
 use Rattle.block.specs.Block.{block_size}
 use Rattle.log_block.proofs.Chunks.{chunk_at}
 use Rattle.log_calls.proofs.walk.block_of.Goals as goal
