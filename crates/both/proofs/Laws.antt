@@ -2,22 +2,20 @@
 -- Assumes nothing.
 use Rattle.std.specs.Prelude.{if◌then◌else◌}
 use mathlib.Core.Path.{◌≡◌, refl, ap}
-use mathlib.Core.Bool.{false, ◌&&◌, ◌||◌}
 use mathlib.Core.List.{List, [], ◌∷◌, ◌++◌, map, map-append}
 use Prim.Native.Nat.{ℕ, zero, suc, ◌+◌, ◌-◌, ◌≤◌, ◌<◌}
 use native.Mathlib.Nat.{add-zero}
 use native.Mathlib.Omega.{arith}
 use lib.Bits.{bit_and, bit_xor}
 use lib.Count.{ones}
-use lib.Dec.{eqb, ltb}
-use borrow.Author.Tests.{lt-ltb, ltb-false}
+use borrow.Author.Tests.{lt-ltb}
 use Rattle.laws.specs.Tests.{Run, within}
 use Rattle.laws.specs.Lists.{at, sum}
 use Rattle.laws.proofs.Tests.{case, covers_true}
 use Rattle.laws.proofs.Sums.{sum_last}
 use Rattle.ports.specs.Ports.{Places}
 use Rattle.ports.specs.Interrupt.{Pair, count_pair}
-use Rattle.ports.specs.Modules.{Module, miscounted, beyond, across}
+use Rattle.ports.specs.Modules.{Module}
 use Rattle.ports.specs.Bytes.{record_of}
 use Rattle.ports.proofs.Interrupt.{ones_through}
 use Rattle.moves.specs.Copied.{copied}

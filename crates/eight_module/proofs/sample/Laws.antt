@@ -1,13 +1,9 @@
 -- What `from_fn` makes. What a sample leaves, place by place: below 14 its conditions, above that both records with its conditions raised
 -- and its onsets marked; so the bytes are those of the definitions.
 -- Assumes nothing.
-use Rattle.std.specs.Prelude.{if◌then◌else◌, Option, None, Some, MatchOption}
-use Rattle.std.specs.Option.{ok_or}
-use Rattle.std.specs.Borrow.{Bor}
+use Rattle.std.specs.Prelude.{if◌then◌else◌}
 use mathlib.Core.Path.{◌≡◌, sym, ap, ◌∙◌}
-use mathlib.Core.Logic.{◌≢◌}
-use mathlib.Core.Bool.{not}
-use mathlib.Core.List.{List, [], ◌∷◌}
+use mathlib.Core.List.{List}
 use Prim.Native.Nat.{ℕ, zero, suc, ◌+◌, ◌-◌, ◌≤◌, ◌<◌}
 use native.Mathlib.Omega.{arith}
 use lib.Bits.{bit_or, bit_and, bit_xor, or_zero_r}
@@ -15,14 +11,14 @@ use lib.Dec.{eqb, ltb}
 use lib.ListN.{length, take, drop}
 use Rattle.std.proofs.lemmas.List.{length-drop, take_all}
 use lib.Seq.{get_or-drop}
-use borrow.Author.Tests.{eqb-true, eqb-false, eq-eqb, ne_eqb, ltb-true, ltb-false, lt-ltb, le-ltb}
+use borrow.Author.Tests.{eqb-true, eqb-false, ltb-true, ltb-false, lt-ltb, le-ltb}
 use denote.Param.Members.{Mut}
-use Rattle.std.specs.Array.{IsFromFnResultFrom, IsFromFnResult, IsWholeChunk}
+use Rattle.std.specs.Array.{IsFromFnResultFrom, IsFromFnResult}
 use Rattle.std.specs.Iterator.{ActsAs}
-use Rattle.laws.specs.Tests.{first_of, covers}
+use Rattle.laws.specs.Tests.{covers}
 use Rattle.laws.specs.Lists.{at, table, patch}
 use Rattle.laws.proofs.Tests.{case, covers_in, covers_below, covers_true}
-use Rattle.laws.proofs.Lists.{table_at, is_table, patch_length, patch_at, patch_in, patch_below, patch_above, patch_else, is_patch}
+use Rattle.laws.proofs.Lists.{table_at, is_table, patch_length, patch_at, patch_in, patch_above, patch_else, is_patch}
 use Rattle.laws.proofs.Parts.{table_same}
 use Rattle.laws.proofs.Fronts.{front_in}
 use Rattle.ports.specs.Ports.{Port, operator, recorder, Places, sample}
@@ -36,8 +32,6 @@ use Rattle.ports.proofs.Taken.{sample_sizes}
 use Rattle.eight.specs.Tables.{record_size}
 use Rattle.eight.specs.Module.{conditions, onset, raised, eight}
 use Rattle.eight.proofs.Lawful.{lawful}
-use Rattle.refusal.specs.Numbers.{number_of}
-use Rattle.refusal.specs.declared.Refusal.TheVariants.{SampleSize}
 use Rattle.eight_module.specs.Joined.{joined}
 use Rattle.eight_module.proofs.Laws.{two_runs, second_run}
 
