@@ -36,9 +36,6 @@ pub loop-flag-init : goal.loop-flag-init
 unfolding sum
 loop-flag-init c = (refl, search rules)
 
-pub overflow_add-count : goal.overflow_add-count
-overflow_add-count c = omega (arith, (turn c).0)
-
 pub loop-flag-preserved : goal.loop-flag-preserved
 loop-flag-preserved c =
     let s = c.args.state.now in
@@ -50,15 +47,3 @@ loop-flag-preserved c =
     let one : c.let_by-count.result ≡ ones (bit_xor (at s (b + (p.flags + j))) (bit_and (at s (b + (p.flags + j))) (at s (b + (p.masks + j))))) = rw (t.1, t.2) at c.let_by-count.ensures.0 in
     let more = count_more (λ k. at s (b + k)) j p.flags p.masks (omega (arith, c.type_inv.state (b + (p.flags + j)))) in
     rw n (omega arith, omega arith)
-
-pub returns : goal.returns
-unfolding part
-returns c =
-    let s = c.args.state.now in
-    let p = c.args.pairs in
-    let f = c.args.base + p.flags in
-    let m = c.args.base + p.masks in
-    let end = zip_end (part f p.many s) (part m p.many s) c.loop-flag.yielded c.into_iter-flag-iterator.result c.loop-flag.flag-iterator c.next.new.self _ (search rules) (search rules)
-    c.loop-flag.yielded_by c.in-None.is c.next.ensures.steps in
-    let all : length c.loop-flag.yielded ≡ p.many = omega (arith, end, slice_length f p.many s (omega arith), slice_length m p.many s (omega arith)) in
-    rw all at c.loop-flag.invariant

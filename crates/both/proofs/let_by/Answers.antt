@@ -4,11 +4,5 @@ use lib.Count.{ones-le}
 use Rattle.laws.proofs.Bits.{without_lt}
 use Rattle.both.proofs.let_by.Goals as goal
 
-pub overflow_cast-result : goal.overflow_cast-result
-overflow_cast-result c =
-    let f = c.args.flags in
-    let m = c.args.mask in
-    omega (arith, ones-le 8 (bit_xor f (bit_and f m)) (without_lt 8 f m (omega arith)))
-
 pub returns : goal.returns
 returns c = (refl, ones-le 8 _ (without_lt 8 c.args.flags c.args.mask (omega arith)))

@@ -59,11 +59,6 @@ unfolding table
 led_made h f acts r same =
     rw (all_made h acts r) (table_same 14 (λ k. h (suc (suc k))) f (λ k l. let z : suc (suc k) ≡ k + 2 = omega arith in rw z (same k l)))
 
-pub led_lead : {F : Type 0} {g : Mut F (ℕ × Unit {0}) ℕ} {c : F} {ys : List ℕ} (h : ℕ → ℕ) → ActsAs g c h → IsFromFnResult g c ys 16
-    → h 0 ≡ 0 → h 1 ≡ 0 → (at ys 0 ≡ 0) × (at ys 1 ≡ 0)
-unfolding table
-led_lead h acts r first second = rw (all_made h acts r) (first, second)
-
 -- what stands behind the lead
 pub led_at : (bs : List ℕ) (j : ℕ) → at (drop 2 bs) j ≡ at bs (j + 2)
 led_at bs j = let z : j + 2 ≡ 2 + j = omega arith in rw z (get_or-drop 2 bs j 0)

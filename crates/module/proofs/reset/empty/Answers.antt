@@ -3,9 +3,6 @@ use Rattle.std.proofs.Common.{◌≡◌, refl, ◌∙◌, arith}
 use Rattle.module.proofs.reset.Laws.{empty_all, wiped_next}
 use Rattle.module.proofs.reset.empty.Goals as goal
 
-pub loop-r-init : goal.loop-r-init
-loop-r-init c = refl
-
 pub loop-r-preserved : goal.loop-r-preserved
 loop-r-preserved c = wiped_next _ c.loop-r.r-index c.r-item.result c.loop-r.state c.wipe.new.state _ c.loop-r-test.true c.wipe.ensures c.loop-r.invariant
 
