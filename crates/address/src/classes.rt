@@ -40,7 +40,7 @@ fn is_of(r: Register, p: Place) -> bool
     (run.first.0..run.first.0 + run.many).contains(&p.0)
 }
 
-// Whether it is on the shared list.
+// Whether it is on the shared list. Not a table and `any`: that was tried, and the proof did not close.
 #[tactic(auto, using(laws::proofs::Tests::covers_one), unfolding(model::specs::Reading::shared))]
 fn is_shared(p: Place) -> bool
     ensures { result ≡ shared p.0 }

@@ -32,14 +32,14 @@ impl Register {
     }
 
     // Whether an address is one of its addresses.
-    pub fn has(self, a: HostAddress) -> bool
+    pub(crate) fn has(self, a: HostAddress) -> bool
         ensures { result ≡ covers self.first (length_of self) a.0 }
     {
         (self.first..=self.last).contains(&u8::from(a))
     }
 
     // How many of them come before an address, if it is one of them.
-    pub fn step_to(self, a: HostAddress) -> Option<usize>
+    pub(crate) fn step_to(self, a: HostAddress) -> Option<usize>
         ensures { MatchOption result (covers self.first (length_of self) a.0 ≡ false) (λ k. (covers self.first (length_of self) a.0 ≡ true) × (k ≡ a.0 - self.first)) }
     {
         if self.has(a) {

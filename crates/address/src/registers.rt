@@ -1,5 +1,6 @@
 // Every register that the code knows of, by name, as the papers give it: its page, its first address and its last. Lower memory, 0 to
-// 127, is the same on every page, and has page 0 here.
+// 127, is the same on every page, and has page 0 here. Plain numbers, as the papers print them: what is made of them are addresses, pages and places
+// (held.rt).
 ghost use Rattle.std.specs.Prelude.{◌<◌, ◌≤◌};
 
 #[derive(Clone, Copy, Debug, PartialEq, Eq)]

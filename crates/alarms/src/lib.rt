@@ -121,7 +121,8 @@ fn below<T: Reading>(a: u16, b: u16) -> u8
     u8::from(T::is_below(a, b))
 }
 
-// The four conditions of a number against its thresholds: high alarm, low alarm, high warning, low warning, from bit 3 down.
+// The four conditions of a number against its thresholds: high alarm, low alarm, high warning, low warning, from bit 3 down. Bits are put together, and
+// told, by numbers, here and below, as the definitions do it; `|`, `<<` and `&` would be no plainer.
 fn four_of<T: Reading>(n: u16, t: [u16; 4]) -> u8
     ensures { (result ≡ four_of (T.whole n) (λ w. T.whole (at t w))) × (result ≤ 15) }
 {
@@ -166,7 +167,7 @@ pub fn offers_tx(state: &State) -> bool
 
 // The conditions of the twelve flag bytes.
 #[tactic(auto, unfolding(laws::specs::Lists::table, model::specs::Samples::conds, model::specs::Samples::conditions))]
-pub fn conditions(state: &State, x: &Sample) -> [u8; 12]
+pub fn conditions(state: &State, x: &Sample) -> [u8; address::FLAGS_LEN]
     ensures { result ≡ table flags.many (λ k. conds (memory_of state.now) x.now (flags.first + k)) }
 {
     let v = rows_at(x, RX_POWER_IN);

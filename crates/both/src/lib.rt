@@ -126,7 +126,7 @@ pub fn check_sample<const N: usize>(
 
 // ---- the count
 
-// The ones of a byte with its masked bits taken away; `&!` would be no plainer, and is not what the definition says.
+// The ones of a byte with its masked bits taken away, as the definition takes them away: by `flags & !mask` the proof does not close.
 fn let_by(flags: u8, mask: u8) -> u8
     ensures { (result ≡ ones (bit_xor flags (bit_and flags mask))) × (result ≤ 8) }
 {
@@ -142,8 +142,8 @@ pub struct Pairs {
     ghost few: { many < 32 },
 }
 
-// The count over such pairs of the record at `base`. The state and a base come apart, here and in `record`: a struct of both would be two, one that
-// changes the state and one that looks.
+// The count over such pairs of the record at `base` of any memory that has them: each module's state has another length. A state and a base come
+// apart, here and in `record`: a struct of both would be two, one that changes the state and one that looks.
 pub fn count_beside(state: &[u8], base: usize, pairs: Pairs) -> u8
     requires { (base + (pairs.flags + pairs.many) ≤ length state.now) × (base + (pairs.masks + pairs.many) ≤ length state.now) }
     ensures { (result ≡ sum (map (count_pair (λ k. at state.now (base + k))) (beside pairs.many pairs.flags pairs.masks))) × (result ≤ 8 * pairs.many) }

@@ -20,7 +20,8 @@ pub fn check_code(s: &[u8]) -> u8
     s.iter().fold(0, |code, byte| code.wrapping_add(*byte))
 }
 
-// The check code of the bytes of a register, of its page.
+// The check code of the bytes of a register, of its page: not one of lower memory, which has its bytes in no page. No type parts the two, since a
+// register of either has all else in common.
 fn code_of(page: &Page, r: Register) -> u8
     requires { page_size ≤ r.first }
     ensures { result ≡ check_code (page_part page.now (r.first to r.last)) }

@@ -84,7 +84,7 @@ fn check_power_up(log: &[u8], used: u64) -> Result<(), Refusal>
     Ok(())
 }
 
-// ---- blocks that are written
+// ---- blocks that are written: each found by `split_at_mut`, since of what is written through `as_chunks_mut` nothing is known
 
 // Opens the block after the used ones.
 fn open_block(log: &mut [u8], used: usize)

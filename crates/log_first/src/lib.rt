@@ -26,7 +26,7 @@ struct StatusBit {
 }
 
 impl StatusBit {
-    // Whether some bytes that begin with three status bytes have it.
+    // Whether some bytes that begin with three status bytes have it, told as the definition tells a bit.
     fn is_in(self, bytes: &[u8]) -> bool
         requires { 3 ≤ length bytes.now }
         ensures { result ≡ lit self.number bytes.now }
@@ -107,7 +107,7 @@ fn search(blocks: &[Block], bit: StatusBit) -> Result<Option<u64>, Refusal>
     Ok(None)
 }
 
-// The first sample that has a status bit: 8 times its byte, 0 to 2, plus the bit.
+// The first sample that has a status bit: 8 times its byte, 0 to 2, plus the bit. Another number is refused last, behind the counts.
 pub fn first_with(log: &[u8], used: u64, bit: u64) -> Result<Option<u64>, Refusal>
     ensures { says found result ≡ first_told log.now used bit }
 {

@@ -99,7 +99,7 @@ fn look(out: &mut [u8], run: HostRun, state: &State, base: Base)
 
 // ---- the call
 
-// An accepted read: the bytes out, then the flags of the run cleared for this port alone, then its count.
+// An accepted read, whose address and count are a run now that they are known to be one: the bytes out, then the flags of the run cleared for this port alone, then its count.
 fn accept(state: &mut State, port: Port, address: u64, count: u64, out: &mut [u8]) -> u8
     requires { refusal_of state.old (read (port_number port) address count out.old) ≡ 0 }
     ensures { ReadDone state.old (port_number port) address count out.old 0 result state.new out.new }

@@ -12,7 +12,7 @@ ghost use Rattle.address.specs.Meaning.{held_at, length_of};
 
 use address::{Register, State, registers};
 use alarms::Sample;
-use both::Counts;
+use both::{Counts, Port};
 use refusal::Refusal;
 
 // Bytes as a sample, or the refusals of one.
@@ -20,8 +20,8 @@ fn check<'a>(state: &State, bytes: &'a [u8]) -> Result<&'a Sample, Refusal>
     ensures refusal { number_of result ≡ refusal_of state.now (sample bytes.now) }
     ensures same { IfOk result (λ x. x.now ≡ bytes.now) }
 {
-    let first = record::is_sound(state, address::record_of(1));
-    let second = record::is_sound(state, address::record_of(2));
+    let first = record::is_sound(state, address::record_of(Port::Operator.into()));
+    let second = record::is_sound(state, address::record_of(Port::Recorder.into()));
     both::check_sample(first, second, bytes)
 }
 
@@ -63,8 +63,8 @@ fn accept(state: &mut State, x: &Sample) -> Counts
     ensures { Reported state.old (sample x.now) 0 result.operator result.recorder state.new }
 {
     let cs = alarms::conditions(state, x);
-    let first = address::record_of(1);
-    let second = address::record_of(2);
+    let first = address::record_of(Port::Operator.into());
+    let second = address::record_of(Port::Recorder.into());
     store(state, x);
     record::raise(state, first, &cs);
     record::raise(state, second, &cs);

@@ -99,7 +99,7 @@ fn write_bytes(state: &mut State, port: Port, page: Page, run: HostRun, bytes: &
     }
 }
 
-// An accepted write, and the port's count after it.
+// An accepted write, whose address and length are a run now that they are known to be one, and the port's count after it.
 fn accept(state: &mut State, port: Port, address: u64, bytes: &[u8]) -> u8
     requires { refusal_of state.old (write (port_number port) address bytes.now) ≡ 0 }
     ensures { WriteDone state.old (port_number port) address bytes.now 0 result state.new }

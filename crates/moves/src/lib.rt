@@ -11,8 +11,8 @@ ghost use Rattle.moves.specs.Copied.{copied};
 // ---- into all of `dst`, from place `to` on: not into a slice of it, since each contract says what of all of `dst` is replaced, as its callers'
 // contracts do. Two slices are not zipped: of what is written through a zip of `iter_mut` nothing is known.
 
-// Copies `src` to the places of `dst` from `to` on. Not by `copy_from_slice`: that is a call of C's `memmove`, and the library asks for nothing
-// but `memset`.
+// Copies `src` to the places of `dst` from `to` on. Not by `copy_from_slice`: over a length that is not known that is a call of C's
+// `memmove`, and the library asks for nothing but `memset`.
 pub fn copy(dst: &mut [u8], to: usize, src: &[u8])
     requires { to + length src.now ≤ length dst.old }
     ensures { dst.new ≡ patch to (length src.now) (at src.now) dst.old }

@@ -73,7 +73,7 @@ impl TryFrom<u64> for Monitor {
 }
 
 impl Monitor {
-    // Whether nothing is measured: while Data_Not_Ready is 1, or Tx power that byte 220 does not offer.
+    // Whether nothing is measured: while Data_Not_Ready is 1, or Tx power that byte 220 does not offer. Bit 0 is told as the definition tells it.
     pub fn is_unmeasured(self, state: &State) -> bool
         ensures { result ≡ (has 0 (memory_of state.now status_at) || not (offered (memory_of state.now) (meant self.quantity))) }
     {

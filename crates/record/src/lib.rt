@@ -31,7 +31,7 @@ fn own(state: &State, base: Base, k: usize) -> u8
 // ---- soundness
 
 // Whether the module has the page, any number: by bit 2 of lower byte 2, and bits 6 and 7 of page 00h byte 195. Bits are told by `/` and `%` here
-// and above, as the definitions tell them; `&` would be no plainer.
+// and below, as the definitions tell them; `&` would be no plainer.
 #[tactic(auto, unfolding(model::specs::Map::supported))]
 pub fn is_supported(state: &State, page: u8) -> bool
     ensures { result ≡ supported (memory_of state.now) page }
@@ -136,7 +136,7 @@ pub fn clear(state: &mut State, base: Base, run: HostRun)
 }
 
 // Raises the conditions `cs` of the twelve flag bytes, a record's first.
-pub fn raise(state: &mut State, base: Base, cs: &[u8; 12])
+pub fn raise(state: &mut State, base: Base, cs: &[u8; address::FLAGS_LEN])
     ensures { state.new ≡ patch base.place.0 flags.many (λ k. bit_or (at state.old (base.place.0 + k)) (at cs.now k)) state.old }
 {
     moves::join(state, usize::from(base.place), cs);
