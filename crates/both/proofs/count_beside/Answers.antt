@@ -1,7 +1,7 @@
 -- `both::count_beside` meets its contract: the count so far is that of the pairs already gone through, and is at most 8 for each, so
 -- that a u8 holds it.
 use Rattle.std.proofs.Common.{◌+◌, ◌-◌, ◌≡◌, ◌≤◌, ◌<◌, ◌∙◌, ap, ℕ, List, [], ◌∷◌, refl, arith, rules, length, take, drop, length-append}
-use Rattle.std.proofs.lemmas.Slice.Zip.{zip_turn, zip_end}
+use Rattle.std.proofs.lemmas.Slice.Zip.{zip_turn}
 use Rattle.std.specs.Int.Bits.{bit_and, bit_xor}
 use Rattle.std.specs.Int.Count.{ones}
 use Rattle.laws.specs.Lists.{at, sum}

@@ -1,5 +1,5 @@
 -- `both::let_by` meets its contract.
-use Rattle.std.proofs.Common.{refl, arith, bit_and, bit_xor}
+use Rattle.std.proofs.Common.{refl, arith}
 use lib.Count.{ones-le}
 use Rattle.laws.proofs.Bits.{without_lt}
 use Rattle.both.proofs.let_by.Goals as goal

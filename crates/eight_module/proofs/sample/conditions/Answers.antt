@@ -1,5 +1,5 @@
 -- `eight_module::sample::conditions` meets its contract: each of the sixteen is 0 or, behind the lead, a condition.
-use Rattle.std.proofs.Common.{◌≡◌, ◌+◌, ◌-◌, ltb, refl, rules, arith, le-ltb}
+use Rattle.std.proofs.Common.{◌≡◌, ◌+◌, ◌-◌, ltb, rules, arith, le-ltb}
 use Rattle.std.specs.Prelude.{if◌then◌else◌}
 use Rattle.eight.specs.Module.{conditions}
 use Rattle.eight_module.proofs.sample.Laws.{led_made}

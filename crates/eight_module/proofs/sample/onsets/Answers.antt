@@ -1,5 +1,5 @@
 -- `eight_module::sample::onsets` meets its contract: each of the sixteen is 0 or, behind the lead, an onset.
-use Rattle.std.proofs.Common.{◌≡◌, ◌+◌, ◌-◌, ltb, drop, refl, rules, arith, le-ltb, bit_and, bit_xor}
+use Rattle.std.proofs.Common.{◌≡◌, ◌+◌, ◌-◌, ltb, drop, rules, arith, le-ltb, bit_and, bit_xor}
 use Rattle.std.specs.Prelude.{if◌then◌else◌}
 use Rattle.laws.specs.Lists.{at}
 use Rattle.eight_module.proofs.sample.Laws.{led_made, led_at}

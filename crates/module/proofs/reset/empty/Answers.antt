@@ -1,5 +1,5 @@
 -- `module::reset::empty` meets its contract: the six runs, laid over each other, are the places that the definition empties.
-use Rattle.std.proofs.Common.{◌≡◌, refl, ◌∙◌, arith}
+use Rattle.std.proofs.Common.{◌≡◌, ◌∙◌, arith}
 use Rattle.module.proofs.reset.Laws.{empty_all, wiped_next}
 use Rattle.module.proofs.reset.empty.Goals as goal
 
