@@ -92,7 +92,7 @@ pub fn own_lane(own: Own, base: Base) -> Lane
 // ---- what of a run of addresses a lane has
 
 // Puts what the lane has of a run into `out`, whose front stands for the run. Any memory that has the lane's places is taken, as it always was, here
-// and below.
+// and below; `out` comes apart from the run, as in `module`'s read.
 pub fn put_lane(out: &mut [u8], run: HostRun, state: &[u8], lane: Lane)
     requires { (run.many ≤ length out.old) × (lane.from.0 + lane.hosts.many ≤ length state.now) }
     ensures { out.new ≡ patch 0 run.many (λ j. copied state.now lane.from.0 lane.hosts.first.0 lane.hosts.many (run.first.0 + j) (at out.old j)) out.old }

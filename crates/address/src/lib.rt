@@ -82,7 +82,7 @@ impl From<Place> for usize {
     }
 }
 
-// Places in a row.
+// Places in a row: a type of its own beside `HostRun`, as places and addresses are not to be mixed up.
 #[derive(Clone, Copy, Debug, PartialEq, Eq)]
 pub struct PlaceRun {
     pub first: Place,

@@ -44,7 +44,7 @@ pub fn number(s: &[u8], i: usize) -> u16
     u16::from_be_bytes([s[i], s[i + 1]])
 }
 
-// Four numbers from `i` on: a quantity's channels, or its thresholds.
+// Four numbers from `i` on: a quantity's channels, or its thresholds. By `from_fn`: `w` is a channel's number, and indexes nothing by itself.
 fn row_at(s: &[u8], i: usize) -> [u16; 4]
     requires { i + 7 < length s.now }
     ensures { result ≡ row s.now i }

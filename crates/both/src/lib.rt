@@ -59,7 +59,7 @@ impl From<Port> for u64 {
     }
 }
 
-// Whether a port is neither.
+// Whether a port is neither: any number, and a test that can't fail, as it always was.
 pub fn is_nobody(port: u64) -> bool
     ensures { result ≡ nobody port }
 {
@@ -76,7 +76,7 @@ const WRITE_MOST: usize = 4;
 // Where lower memory ends.
 const LOWER: u64 = 128;
 
-// The refusals 4 to 6 of a read, where addresses end at `reach`.
+// The refusals 4 to 6 of a read, where addresses end at `reach`. "Of 0 or more than 128 bytes" is said as the paper says it, here and below.
 pub fn check_read(reach: u64, address: u64, count: u64, room: usize) -> Result<(), Refusal>
     requires { 128 ≤ reach }
     ensures { number_of result ≡ first_of ((4, miscounted 128 count) ∷ (5, beyond reach address count) ∷ (6, ltb room count) ∷ []) }

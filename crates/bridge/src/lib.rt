@@ -111,7 +111,7 @@ pub extern "C" fn zikhrodan_monitor_value(state: &[u8], number: u64) -> f64
     packing::value(readout::monitor(state, number))
 }
 
-// ---- limits
+// ---- limits: C's number of a refusal
 
 #[unsafe(no_mangle)]
 pub extern "C" fn zikhrodan_limits_refusal(state: &[u8], quantity: u64) -> u32

@@ -1,5 +1,6 @@
 // The eight-channel module: the four calls that are lent its state, 98 bytes, a file each, and here what they share. Nothing need be
-// checked first: each call refuses what it cannot take, and a refusal changes no byte. The frame of the calls is that of `module`'s.
+// checked first: each call refuses what it cannot take, and a refusal changes no byte. The frame of the calls is that of `module`'s, and
+// what is said there of it holds here.
 // Proved: what each call answers and leaves is, for every input, that of the definitions (crates/eight), of which its rules are proved.
 #![tactic(auto)]
 

@@ -56,7 +56,8 @@ fn conditions(x: &Bytes) -> Led
     Led { bytes }
 }
 
-// Those of the conditions `cs` that have their onset: absent in the accepted sample before. They are taken away as `both` takes away masked bits.
+// Those of the conditions `cs` that have their onset: absent in the accepted sample before. They are taken away as `both` takes away masked
+// bits; `from_fn` as above.
 fn onsets(state: &State, cs: Led) -> Led
     ensures { drop 2 result.bytes ≡ table 14 (λ i. let c = at (drop 2 cs.bytes) i in bit_xor c (bit_and c (at state.now i))) }
 {

@@ -58,7 +58,8 @@ fn write_byte(state: &mut State, port: Port, a: usize, v: u8)
     }
 }
 
-// The bytes of a write, one after the other. The number of each is how far it is from the first address, and indexes nothing.
+// The bytes of a write, one after the other. The number of each is how far it is from the first address, and indexes nothing;
+// `module`'s is the same loop over another write of one byte.
 fn write_bytes(state: &mut State, port: Port, a: usize, bytes: &[u8])
     requires { a + length bytes.now ≤ 128 }
     ensures { let b = base eight (caller (port_number port)) in state.new ≡ patch b record_size (written a bytes.now (record_of eight state.old b)) state.old }

@@ -25,7 +25,7 @@ pub const MARK_AT: usize = 504;
 // Where the check is.
 const CHECK_AT: usize = 510;
 
-// A block, and one of its samples.
+// A block, and one of its samples: the module's sample by its length alone, since a log knows of no module.
 pub type Block = [u8; BLOCK_LEN];
 
 pub type Sample = [u8; SAMPLE_LEN];

@@ -65,7 +65,8 @@ fn first_among(samples: &[Sample], bit: StatusBit) -> Option<usize>
     samples.iter().position(|sample| bit.is_in(sample))
 }
 
-// The first of a block's samples that has it: by its count alone, none, where its summary excludes the bit.
+// The first of a block's samples that has it: by its count alone, none, where its summary excludes the bit. That the count is at most 16 no type
+// holds (log_block/src/lib.rt).
 fn in_block(block: &Block, bit: StatusBit) -> Option<usize>
     requires { count block.now ≤ most_samples }
     ensures { found result ≡ first_of_block bit.number block.now }
@@ -107,7 +108,8 @@ fn search(blocks: &[Block], bit: StatusBit) -> Result<Option<u64>, Refusal>
     Ok(None)
 }
 
-// The first sample that has a status bit: 8 times its byte, 0 to 2, plus the bit. Another number is refused last, behind the counts.
+// The first sample that has a status bit: 8 times its byte, 0 to 2, plus the bit. Another number is refused last, behind the counts. A log
+// and its used number are one from `used_blocks` on.
 pub fn first_with(log: &[u8], used: u64, bit: u64) -> Result<Option<u64>, Refusal>
     ensures { says found result ≡ first_told log.now used bit }
 {

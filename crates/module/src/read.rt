@@ -84,7 +84,7 @@ fn put_own(out: &mut [u8], run: HostRun, state: &State, base: Base)
     address::put_lane(out, run, state, address::own_lane(Own::FLAGS, base));
 }
 
-// What the port with the record at `base` sees at a run of addresses.
+// What the port with the record at `base` sees at a run of addresses. The record is sound, which no type holds (record/src/lib.rt).
 fn look(out: &mut [u8], run: HostRun, state: &State, base: Base)
     requires room { run.many ≤ length out.old }
     requires record_sound { sound (memory_of state.now) (record_of state.now base.place.0) ≡ true }

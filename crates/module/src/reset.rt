@@ -75,7 +75,7 @@ fn empty(state: &mut State)
     }
 }
 
-// The memory after an accepted reset.
+// The memory after an accepted reset. Bits 2 and 0 of byte 2 are told and put as the definition does it.
 fn restore(state: &mut State, image: &Image)
     ensures { state.new ≡ patch 0 memory_size (λ i. fresh image.now i (at state.old i)) state.old }
 {

@@ -43,7 +43,7 @@ fn store_tx(state: &mut State, x: &Sample)
     }
 }
 
-// Stores its numbers where they are read, and takes Data_Not_Ready away.
+// Stores its numbers where they are read, and takes Data_Not_Ready away, bit 0, as the definition does it.
 fn store(state: &mut State, x: &Sample)
     ensures { state.new ≡ patch 0 memory_size (λ i. stored (memory_of state.old) x.now i (at state.old i)) state.old }
 {

@@ -31,7 +31,7 @@ fn are_mine(page: Page, run: HostRun) -> bool
     (0..run.many).all(|k| is_mine(page, run.nth(k)))
 }
 
-// Whether a recorder's write touches a byte not its own.
+// Whether a recorder's write touches a byte not its own; here and below its record is sound, which no type holds (record/src/lib.rt).
 fn is_foreign(state: &State, port: Port, run: HostRun) -> bool
     requires { sound (memory_of state.now) (record_of state.now (base (caller (port_number port)))) ≡ true }
     ensures { result ≡ foreign (state_of state.now) (port_number port) run.first.0 run.many }

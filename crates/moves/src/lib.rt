@@ -77,7 +77,8 @@ impl Run {
 }
 
 // The front of `out` stands for the numbers of `shown`, the places of `src` from `from` on for those of `held`: copies what
-// both have. Not a slice of `src`: the contract speaks of the places of all of it, as its callers' do.
+// both have. Not a slice of `src`: the contract speaks of the places of all of it, as its callers' do; and `out` comes apart from its run, as in
+// `module`'s read.
 pub fn copy_part(out: &mut [u8], shown: Run, src: &[u8], from: usize, held: Run)
     requires { (shown.many ≤ length out.old) × (from + held.many ≤ length src.now) }
     ensures { out.new ≡ patch 0 shown.many (λ j. copied src.now from held.first held.many (shown.first + j) (at out.old j)) out.old }
@@ -89,7 +90,7 @@ pub fn copy_part(out: &mut [u8], shown: Run, src: &[u8], from: usize, held: Run)
     }
 }
 
-// The places of `dst` from `to` on stand for the numbers of `held`: puts `v` where `run` has one.
+// The places of `dst` from `to` on stand for the numbers of `held`: puts `v` where `run` has one. All of `dst`, as above.
 pub fn fill_part(dst: &mut [u8], to: usize, held: Run, run: Run, v: u8)
     requires { to + held.many ≤ length dst.old }
     ensures { dst.new ≡ patch to held.many (λ k. if covers run.first run.many (held.first + k) then v else at dst.old (to + k)) dst.old }
